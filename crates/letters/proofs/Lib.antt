@@ -1,0 +1,4 @@
+mod Sets
+pub mod Laws
+pub mod ZoneNumber
+pub mod Unique

@@ -1,0 +1,56 @@
+-- Two answers that meet a call's promise are equal: one lemma for each public call, over the contract itself.
+-- Assumes nothing.
+use mathlib.Core.Path.{_≡_, sym, _∙_}
+use contract.Lifetimes.{Lfts}
+use borrow.Fn.World.{ArgsD, ResD}
+use denote.Triple.Clauses.{AtExit}
+use Rattle.letters.proofs.capital as capital
+use Rattle.letters.proofs.capital.Reads as capital-reads
+use Rattle.letters.proofs.place_of as place-of
+use Rattle.letters.proofs.place_of.Reads as place-of-reads
+use Rattle.letters.proofs.letter_at as letter-at
+use Rattle.letters.proofs.letter_at.Reads as letter-at-reads
+use Rattle.letters.proofs.first_tile as first-tile
+use Rattle.letters.proofs.first_tile.Reads as first-tile-reads
+use Rattle.letters.proofs.grid_of as grid-of
+use Rattle.letters.proofs.grid_of.Reads as grid-of-reads
+use Rattle.letters.proofs.bands_of as bands-of
+use Rattle.letters.proofs.bands_of.Reads as bands-of-reads
+use Rattle.letters.proofs.columns_of as columns-of
+use Rattle.letters.proofs.columns_of.Reads as columns-of-reads
+use Rattle.letters.proofs.rows_of as rows-of
+use Rattle.letters.proofs.rows_of.Reads as rows-of-reads
+use Rattle.letters.proofs.is_north as is-north
+use Rattle.letters.proofs.is_north.Reads as is-north-reads
+use Rattle.letters.proofs.is_east as is-east
+use Rattle.letters.proofs.is_east.Reads as is-east-reads
+
+pub capital-unique : (κs : Lfts 0) (a : ArgsD capital.signature κs) (r r′ : ResD capital.signature κs) (s s′ : AtExit capital.ended κs) → capital-reads.Post κs a r s → capital-reads.Post κs a r′ s′ → r ≡ r′
+capital-unique κs a r r′ s s′ p q = p ∙ sym q
+
+pub place-of-unique : (κs : Lfts 0) (a : ArgsD place-of.signature κs) (r r′ : ResD place-of.signature κs) (s s′ : AtExit place-of.ended κs) → place-of-reads.Post κs a r s → place-of-reads.Post κs a r′ s′ → r ≡ r′
+place-of-unique κs a r r′ s s′ p q = p ∙ sym q
+
+pub letter-at-unique : (κs : Lfts 0) (a : ArgsD letter-at.signature κs) (r r′ : ResD letter-at.signature κs) (s s′ : AtExit letter-at.ended κs) → letter-at-reads.Post κs a r s → letter-at-reads.Post κs a r′ s′ → r ≡ r′
+letter-at-unique κs a r r′ s s′ p q = p ∙ sym q
+
+pub first-tile-unique : (κs : Lfts 0) (a : ArgsD first-tile.signature κs) (r r′ : ResD first-tile.signature κs) (s s′ : AtExit first-tile.ended κs) → first-tile-reads.Post κs a r s → first-tile-reads.Post κs a r′ s′ → r ≡ r′
+first-tile-unique κs a r r′ s s′ p q = p ∙ sym q
+
+pub grid-of-unique : (κs : Lfts 0) (a : ArgsD grid-of.signature κs) (r r′ : ResD grid-of.signature κs) (s s′ : AtExit grid-of.ended κs) → grid-of-reads.Post κs a r s → grid-of-reads.Post κs a r′ s′ → r ≡ r′
+grid-of-unique κs a r r′ s s′ p q = p ∙ sym q
+
+pub bands-of-unique : (κs : Lfts 0) (a : ArgsD bands-of.signature κs) (r r′ : ResD bands-of.signature κs) (s s′ : AtExit bands-of.ended κs) → bands-of-reads.Post κs a r s → bands-of-reads.Post κs a r′ s′ → r ≡ r′
+bands-of-unique κs a r r′ s s′ p q = p ∙ sym q
+
+pub columns-of-unique : (κs : Lfts 0) (a : ArgsD columns-of.signature κs) (r r′ : ResD columns-of.signature κs) (s s′ : AtExit columns-of.ended κs) → columns-of-reads.Post κs a r s → columns-of-reads.Post κs a r′ s′ → r ≡ r′
+columns-of-unique κs a r r′ s s′ p q = p ∙ sym q
+
+pub rows-of-unique : (κs : Lfts 0) (a : ArgsD rows-of.signature κs) (r r′ : ResD rows-of.signature κs) (s s′ : AtExit rows-of.ended κs) → rows-of-reads.Post κs a r s → rows-of-reads.Post κs a r′ s′ → r ≡ r′
+rows-of-unique κs a r r′ s s′ p q = p ∙ sym q
+
+pub is-north-unique : (κs : Lfts 0) (a : ArgsD is-north.signature κs) (r r′ : ResD is-north.signature κs) (s s′ : AtExit is-north.ended κs) → is-north-reads.Post κs a r s → is-north-reads.Post κs a r′ s′ → r ≡ r′
+is-north-unique κs a r r′ s s′ p q = p ∙ sym q
+
+pub is-east-unique : (κs : Lfts 0) (a : ArgsD is-east.signature κs) (r r′ : ResD is-east.signature κs) (s s′ : AtExit is-east.ended κs) → is-east-reads.Post κs a r s → is-east-reads.Post κs a r′ s′ → r ≡ r′
+is-east-unique κs a r r′ s s′ p q = p ∙ sym q

@@ -1,0 +1,21 @@
+-- `letters::utm_columns` meets its contract.
+-- Assumes nothing.
+use borrow.Author.Tests.{ne-eqb}
+use Rattle.letters.specs.Sets.{utmColumns}
+use Rattle.letters.proofs.utm_columns.Statement.{statement}
+use Rattle.letters.proofs.utm_columns.Tie as tie
+
+returns : tie.Need-returns
+unfolding utmColumns
+returns c = rw (c .match .keys1)
+
+returns-2 : tie.Need-returns-2
+unfolding utmColumns
+returns-2 c = rw (c .match .keys2)
+
+returns-3 : tie.Need-returns-3
+unfolding utmColumns
+returns-3 c = let k = c .match .rest in rw (ne-eqb _ _ (k .0 .1), ne-eqb _ _ (k .1))
+
+pub utm-columns-spec : {M : Type 1} → statement M
+utm-columns-spec = tie.close (tie.spec returns returns-2 returns-3)

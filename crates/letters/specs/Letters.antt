@@ -1,0 +1,61 @@
+-- The letters of document 01, "Letters (source document 000)". Assumes nothing.
+use mathlib.Core.Bool.{Bool, true, false, cond, _&&_, _||_}
+use mathlib.Core.List.{List, [], _∷_}
+use Prim.Native.Nat.{ℕ, suc, _-_}
+use lib.Dec.{eqb, leb, ltb}
+use lib.ListN.{getD}
+use Rattle.whole.specs.Text.{bytes}
+use Rattle.letters.specs.declared.LetterSet.{LetterSet}
+use Rattle.letters.specs.declared.LetterSet.the-variants.{NoLetters, UtmBands, UpsBands, UtmColumns0, UtmColumns1, UtmColumns2, UtmRows, UpsColumnsA, UpsColumnsB, UpsColumnsY, UpsColumnsZ, UpsRowsSouth, UpsRowsNorth}
+use Rattle.letters.specs.declared.Place.{Place}
+use Rattle.letters.specs.declared.Place.the-variants.{At, NotInSet}
+
+-- "a-z count as A-Z": 97 to 122 are a to z, and a capital stands 32 lower.
+unfoldable pub capitalOf : ℕ → ℕ
+capitalOf b = cond (ltb b 97) b (cond (ltb 122 b) b (b - 32))
+
+-- The sets, letter for letter. A zone or a UPS band that does not exist has no letters.
+abbrev pub lettersOf : LetterSet → List ℕ
+lettersOf NoLetters = []
+lettersOf UtmBands = bytes "CDEFGHJKLMNPQRSTUVWX"
+lettersOf UpsBands = bytes "ABYZ"
+lettersOf UtmColumns0 = bytes "ABCDEFGH"
+lettersOf UtmColumns1 = bytes "JKLMNPQR"
+lettersOf UtmColumns2 = bytes "STUVWXYZ"
+lettersOf UtmRows = bytes "ABCDEFGHJKLMNPQRSTUV"
+lettersOf UpsColumnsA = bytes "JKLPQRSTUXYZ"
+lettersOf UpsColumnsB = bytes "ABCFGHJKLPQR"
+lettersOf UpsColumnsY = bytes "RSTUXYZ"
+lettersOf UpsColumnsZ = bytes "ABCFGHJ"
+lettersOf UpsRowsSouth = bytes "ABCDEFGHJKLMNPQRSTUVWXYZ"
+lettersOf UpsRowsNorth = bytes "ABCDEFGHJKLMNP"
+
+-- The first place of a letter in a list, counted from i.
+unfoldable pub placeFrom : ℕ → List ℕ → ℕ → Place
+placeFrom i [] b = NotInSet
+placeFrom i (x ∷ xs) b = cond (eqb x b) (At i) (placeFrom (suc i) xs b)
+
+-- Where a capital stands in a set, counted from 0.
+unfoldable pub placeOf : LetterSet → ℕ → Place
+placeOf set b = placeFrom 0 (lettersOf set) b
+
+-- The letter at a place, 0 past the set's end.
+unfoldable pub letterAt : LetterSet → ℕ → ℕ
+letterAt set k = getD (lettersOf set) k 0
+
+-- "column index 0..7 is tile 1..8"; UPS columns "A .. from tile 8; B .. from 20; Y .. from 13; Z .. from 20";
+-- "UPS rows: south .. from 8, north .. from 13". Bands and UTM rows count no tiles: 0.
+unfoldable pub firstTile : LetterSet → ℕ
+firstTile NoLetters = 0
+firstTile UtmBands = 0
+firstTile UpsBands = 0
+firstTile UtmColumns0 = 1
+firstTile UtmColumns1 = 1
+firstTile UtmColumns2 = 1
+firstTile UtmRows = 0
+firstTile UpsColumnsA = 8
+firstTile UpsColumnsB = 20
+firstTile UpsColumnsY = 13
+firstTile UpsColumnsZ = 20
+firstTile UpsRowsSouth = 8
+firstTile UpsRowsNorth = 13

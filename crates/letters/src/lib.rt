@@ -1,0 +1,594 @@
+// The letters of document 01: which set a zone and a band use, and where in it a letter stands.
+ghost use mathlib.Core.Path.{_≡_};
+ghost use Rattle.letters.specs.Letters.{capitalOf, placeOf, letterAt, firstTile};
+ghost use Rattle.letters.specs.Sets.{gridOf, bandsOf, utmColumns, upsColumns, columnsOf, rowsOf, northBand, eastBand};
+ghost use Rattle.letters.specs.Tables.{numberOf, codeOf};
+ghost use Prim.Native.Nat.{_+_, _<_};
+
+// The twelve sets, and one for zones and bands that do not exist.
+pub enum LetterSet {
+    NoLetters,
+    UtmBands,
+    UpsBands,
+    UtmColumns0,
+    UtmColumns1,
+    UtmColumns2,
+    UtmRows,
+    UpsColumnsA,
+    UpsColumnsB,
+    UpsColumnsY,
+    UpsColumnsZ,
+    UpsRowsSouth,
+    UpsRowsNorth,
+}
+
+// Where a letter stands in a set, if it does.
+pub enum Place {
+    At(usize),
+    NotInSet,
+}
+
+// The sets in the order above, each filled up with zeros: place to letter is one read.
+const LETTERS: [[u8; 24]; 13] = [
+    *b"\0\0\0\0\0\0\0\0\0\0\0\0\0\0\0\0\0\0\0\0\0\0\0\0",
+    *b"CDEFGHJKLMNPQRSTUVWX\0\0\0\0",
+    *b"ABYZ\0\0\0\0\0\0\0\0\0\0\0\0\0\0\0\0\0\0\0\0",
+    *b"ABCDEFGH\0\0\0\0\0\0\0\0\0\0\0\0\0\0\0\0",
+    *b"JKLMNPQR\0\0\0\0\0\0\0\0\0\0\0\0\0\0\0\0",
+    *b"STUVWXYZ\0\0\0\0\0\0\0\0\0\0\0\0\0\0\0\0",
+    *b"ABCDEFGHJKLMNPQRSTUV\0\0\0\0",
+    *b"JKLPQRSTUXYZ\0\0\0\0\0\0\0\0\0\0\0\0",
+    *b"ABCFGHJKLPQR\0\0\0\0\0\0\0\0\0\0\0\0",
+    *b"RSTUXYZ\0\0\0\0\0\0\0\0\0\0\0\0\0\0\0\0\0",
+    *b"ABCFGHJ\0\0\0\0\0\0\0\0\0\0\0\0\0\0\0\0\0",
+    *b"ABCDEFGHJKLMNPQRSTUVWXYZ",
+    *b"ABCDEFGHJKLMNP\0\0\0\0\0\0\0\0\0\0",
+];
+
+// The same turned round, A to Z: letter to place is one read, 99 where the letter is not in the set.
+const ABSENT: u8 = 99;
+
+const PLACES: [[u8; 26]; 13] = [
+    [
+        99,
+        99,
+        99,
+        99,
+        99,
+        99,
+        99,
+        99,
+        99,
+        99,
+        99,
+        99,
+        99,
+        99,
+        99,
+        99,
+        99,
+        99,
+        99,
+        99,
+        99,
+        99,
+        99,
+        99,
+        99,
+        99,
+    ],
+    [
+        99,
+        99,
+        0,
+        1,
+        2,
+        3,
+        4,
+        5,
+        99,
+        6,
+        7,
+        8,
+        9,
+        10,
+        99,
+        11,
+        12,
+        13,
+        14,
+        15,
+        16,
+        17,
+        18,
+        19,
+        99,
+        99,
+    ],
+    [
+        0,
+        1,
+        99,
+        99,
+        99,
+        99,
+        99,
+        99,
+        99,
+        99,
+        99,
+        99,
+        99,
+        99,
+        99,
+        99,
+        99,
+        99,
+        99,
+        99,
+        99,
+        99,
+        99,
+        99,
+        2,
+        3,
+    ],
+    [
+        0,
+        1,
+        2,
+        3,
+        4,
+        5,
+        6,
+        7,
+        99,
+        99,
+        99,
+        99,
+        99,
+        99,
+        99,
+        99,
+        99,
+        99,
+        99,
+        99,
+        99,
+        99,
+        99,
+        99,
+        99,
+        99,
+    ],
+    [
+        99,
+        99,
+        99,
+        99,
+        99,
+        99,
+        99,
+        99,
+        99,
+        0,
+        1,
+        2,
+        3,
+        4,
+        99,
+        5,
+        6,
+        7,
+        99,
+        99,
+        99,
+        99,
+        99,
+        99,
+        99,
+        99,
+    ],
+    [
+        99,
+        99,
+        99,
+        99,
+        99,
+        99,
+        99,
+        99,
+        99,
+        99,
+        99,
+        99,
+        99,
+        99,
+        99,
+        99,
+        99,
+        99,
+        0,
+        1,
+        2,
+        3,
+        4,
+        5,
+        6,
+        7,
+    ],
+    [
+        0,
+        1,
+        2,
+        3,
+        4,
+        5,
+        6,
+        7,
+        99,
+        8,
+        9,
+        10,
+        11,
+        12,
+        99,
+        13,
+        14,
+        15,
+        16,
+        17,
+        18,
+        19,
+        99,
+        99,
+        99,
+        99,
+    ],
+    [
+        99,
+        99,
+        99,
+        99,
+        99,
+        99,
+        99,
+        99,
+        99,
+        0,
+        1,
+        2,
+        99,
+        99,
+        99,
+        3,
+        4,
+        5,
+        6,
+        7,
+        8,
+        99,
+        99,
+        9,
+        10,
+        11,
+    ],
+    [
+        0,
+        1,
+        2,
+        99,
+        99,
+        3,
+        4,
+        5,
+        99,
+        6,
+        7,
+        8,
+        99,
+        99,
+        99,
+        9,
+        10,
+        11,
+        99,
+        99,
+        99,
+        99,
+        99,
+        99,
+        99,
+        99,
+    ],
+    [
+        99,
+        99,
+        99,
+        99,
+        99,
+        99,
+        99,
+        99,
+        99,
+        99,
+        99,
+        99,
+        99,
+        99,
+        99,
+        99,
+        99,
+        0,
+        1,
+        2,
+        3,
+        99,
+        99,
+        4,
+        5,
+        6,
+    ],
+    [
+        0,
+        1,
+        2,
+        99,
+        99,
+        3,
+        4,
+        5,
+        99,
+        6,
+        99,
+        99,
+        99,
+        99,
+        99,
+        99,
+        99,
+        99,
+        99,
+        99,
+        99,
+        99,
+        99,
+        99,
+        99,
+        99,
+    ],
+    [
+        0,
+        1,
+        2,
+        3,
+        4,
+        5,
+        6,
+        7,
+        99,
+        8,
+        9,
+        10,
+        11,
+        12,
+        99,
+        13,
+        14,
+        15,
+        16,
+        17,
+        18,
+        19,
+        20,
+        21,
+        22,
+        23,
+    ],
+    [
+        0,
+        1,
+        2,
+        3,
+        4,
+        5,
+        6,
+        7,
+        99,
+        8,
+        9,
+        10,
+        11,
+        12,
+        99,
+        13,
+        99,
+        99,
+        99,
+        99,
+        99,
+        99,
+        99,
+        99,
+        99,
+        99,
+    ],
+];
+
+// a-z count as A-Z.
+pub fn capital(b: u8) -> u8
+    ensures { λ r. ⌜ r ≡ capitalOf b ⌝ }
+{
+    if b < b'a' {
+        return b;
+    }
+    if b'z' < b {
+        return b;
+    }
+    b - 32
+}
+
+// Which line of the tables is the set's.
+fn number_of(set: LetterSet) -> usize
+    ensures { λ r. ⌜ r ≡ numberOf set ⌝ }
+{
+    match set {
+        LetterSet::NoLetters => 0,
+        LetterSet::UtmBands => 1,
+        LetterSet::UpsBands => 2,
+        LetterSet::UtmColumns0 => 3,
+        LetterSet::UtmColumns1 => 4,
+        LetterSet::UtmColumns2 => 5,
+        LetterSet::UtmRows => 6,
+        LetterSet::UpsColumnsA => 7,
+        LetterSet::UpsColumnsB => 8,
+        LetterSet::UpsColumnsY => 9,
+        LetterSet::UpsColumnsZ => 10,
+        LetterSet::UpsRowsSouth => 11,
+        LetterSet::UpsRowsNorth => 12,
+    }
+}
+
+// What the table holds of the letter that stands `index` letters after A.
+fn coded_place(set: LetterSet, index: usize) -> u8
+    requires { ⌜ index < 26 ⌝ }
+    ensures { λ r. ⌜ r ≡ codeOf (placeOf set (65 + index)) ⌝ }
+{
+    let line = number_of(set);
+    PLACES[line][index]
+}
+
+// Where a capital stands in a set; a small letter stands in none.
+pub fn place_of(set: LetterSet, letter: u8) -> Place
+    ensures { λ r. ⌜ r ≡ placeOf set letter ⌝ }
+{
+    if letter < b'A' {
+        return Place::NotInSet;
+    }
+    if b'Z' < letter {
+        return Place::NotInSet;
+    }
+    let place = coded_place(set, (letter - b'A') as usize);
+    if place == ABSENT {
+        return Place::NotInSet;
+    }
+    Place::At(place as usize)
+}
+
+// The letter at a place, 0 past the set's end.
+pub fn letter_at(set: LetterSet, place: usize) -> u8
+    ensures { λ r. ⌜ r ≡ letterAt set place ⌝ }
+{
+    if 24 <= place {
+        return 0;
+    }
+    let line = number_of(set);
+    LETTERS[line][place]
+}
+
+const FIRST_TILES: [usize; 13] = [0, 0, 0, 1, 1, 1, 0, 8, 20, 13, 20, 8, 13];
+
+// The tile of the set's first letter; 0 for bands and UTM rows, which count no tiles.
+pub fn first_tile(set: LetterSet) -> usize
+    ensures { λ r. ⌜ r ≡ firstTile set ⌝ }
+{
+    let line = number_of(set);
+    FIRST_TILES[line]
+}
+
+// The grid of a zone number.
+pub enum Grid {
+    Utm,
+    Ups,
+    NoZone,
+}
+
+pub fn grid_of(zone: i64) -> Grid
+    ensures { λ r. ⌜ r ≡ gridOf zone ⌝ }
+{
+    if zone < 0 {
+        return Grid::NoZone;
+    }
+    if 60 < zone {
+        return Grid::NoZone;
+    }
+    if zone < 1 {
+        return Grid::Ups;
+    }
+    Grid::Utm
+}
+
+pub fn bands_of(zone: i64) -> LetterSet
+    ensures { λ r. ⌜ r ≡ bandsOf zone ⌝ }
+{
+    match grid_of(zone) {
+        Grid::Utm => LetterSet::UtmBands,
+        Grid::Ups => LetterSet::UpsBands,
+        Grid::NoZone => LetterSet::NoLetters,
+    }
+}
+
+// The sets of columns repeat every three zones.
+fn utm_columns(third: u64) -> LetterSet
+    ensures { λ r. ⌜ r ≡ utmColumns third ⌝ }
+{
+    match third {
+        0 => LetterSet::UtmColumns0,
+        1 => LetterSet::UtmColumns1,
+        _ => LetterSet::UtmColumns2,
+    }
+}
+
+fn ups_columns(band: u8) -> LetterSet
+    ensures { λ r. ⌜ r ≡ upsColumns band ⌝ }
+{
+    match band {
+        b'A' => LetterSet::UpsColumnsA,
+        b'B' => LetterSet::UpsColumnsB,
+        b'Y' => LetterSet::UpsColumnsY,
+        b'Z' => LetterSet::UpsColumnsZ,
+        _ => LetterSet::NoLetters,
+    }
+}
+
+pub fn columns_of(zone: i64, band: u8) -> LetterSet
+    ensures { λ r. ⌜ r ≡ columnsOf zone band ⌝ }
+{
+    match grid_of(zone) {
+        Grid::Utm => utm_columns(whole::floor_mod(zone - 1, 3)),
+        Grid::Ups => ups_columns(band),
+        Grid::NoZone => LetterSet::NoLetters,
+    }
+}
+
+pub fn rows_of(zone: i64, north: bool) -> LetterSet
+    ensures { λ r. ⌜ r ≡ rowsOf zone north ⌝ }
+{
+    match grid_of(zone) {
+        Grid::Utm => LetterSet::UtmRows,
+        Grid::Ups => {
+            if north {
+                return LetterSet::UpsRowsNorth;
+            }
+            LetterSet::UpsRowsSouth
+        }
+        Grid::NoZone => LetterSet::NoLetters,
+    }
+}
+
+// Whether a band's letter, of UTM or of UPS, is of the northern hemisphere: N to X, Y and Z.
+pub fn is_north(band: u8) -> bool
+    ensures { λ r. ⌜ r ≡ northBand band ⌝ }
+{
+    b'N' <= band
+}
+
+// Whether a UPS band is the eastern one of its hemisphere: B or Z.
+pub fn is_east(band: u8) -> bool
+    ensures { λ r. ⌜ r ≡ eastBand band ⌝ }
+{
+    if band == b'B' {
+        return true;
+    }
+    band == b'Z'
+}

@@ -1,0 +1,100 @@
+-- What a point in range is after its upper ends are lowered. Assumes nothing.
+use mathlib.Core.Path.{_≡_, refl, sym, ap, _∙_, subst}
+use mathlib.Core.Bool.{Bool, true, false, cond}
+use Prim.Native.Nat.{ℕ, _+_, _≤_}
+use native.Mathlib.Omega.{arith}
+use lib.Dec.{T, lit≤}
+use lib.IntN.{ℤ, pos, negsuc, _+ℤ_, _-ℤ_}
+use lib.Signed.{ltZ, _≤ℤ_}
+use mir.Syntax.{w64}
+use mir.Val.{SFits}
+use Rattle.whole.specs.Compare.{same}
+use Rattle.whole.proofs.Parts.{up, dn, lt-no, add-parts, sub-parts, le-true, ≤ℤ-parts}
+use Rattle.whole.proofs.Signed.{fits-in, same→eq}
+use Rattle.position.specs.declared.Ends.{Ends}
+use Rattle.position.specs.declared.OutAxis.{OutAxis}
+use Rattle.position.specs.declared.OutAxis.the-variants.{Neither, Easting, Northing}
+use Rattle.position.specs.Ranges.{tiles, eastings, northings, moved, outOf, outAxis}
+use Rattle.position.specs.Edges.{lowered}
+use Rattle.position.proofs.Bounds.{Bounded, north-bounded}
+
+-- not out of the ends moved by nothing: between the two
+pub record Between (ends : Ends) (x : ℤ) : Type 0 where
+  pub from : up (ends .low) + dn x ≤ up x + dn (ends .low)
+  pub to : up x + dn (ends .high) ≤ up (ends .high) + dn x
+
+between-by : (ends : Ends) (x : ℤ) (below above : Bool) → ltZ x (ends .low -ℤ pos 0) ≡ below → ltZ (ends .high +ℤ pos 0) x ≡ above → cond below true above ≡ false → Between ends x
+unfolding up dn
+between-by ends x true above p q e = absurd (subst T e tt)
+between-by ends x false above p q e =
+    let a = lt-no x (ends .low -ℤ pos 0) p in
+    let b = lt-no (ends .high +ℤ pos 0) x (q ∙ e) in
+    let s = sub-parts (ends .low) (pos 0) in
+    let t = add-parts (ends .high) (pos 0) in
+    record { from = omega arith; to = omega arith }
+
+between : (ends : Ends) (x : ℤ) → outOf (moved (pos 0) ends) x ≡ false → Between ends x
+unfolding outOf
+between ends x e = between-by ends x (ltZ x (ends .low -ℤ pos 0)) (ltZ (ends .high +ℤ pos 0) x) refl refl e
+
+not-east : {X : Type 0} → Easting ≡ Neither → X
+not-east e = let z : _≡_ {A = ℕ} 0 1 = cc in absurd (omega arith)
+
+not-north : {X : Type 0} → Northing ≡ Neither → X
+not-north e = let z : _≡_ {A = ℕ} 0 1 = cc in absurd (omega arith)
+
+module _ (utm north : Bool) (e n : ℤ) where
+  both-by : (a b : Bool) → cond a Easting (cond b Northing Neither) ≡ Neither → (a ≡ false) × (b ≡ false)
+  both-by true b h = not-east h
+  both-by false true h = not-north h
+  both-by false false h = (refl, refl)
+
+  -- neither axis is out: both lie between their ends
+  pub inside : outAxis (pos 0) utm north e n ≡ Neither → Between (eastings utm north) e × Between (northings utm north) n
+  unfolding outAxis
+  inside h =
+      let s = both-by (outOf (moved (pos 0) (eastings utm north)) e) (outOf (moved (pos 0) (northings utm north)) n) h in
+      (between (eastings utm north) e (s .0), between (northings utm north) n (s .1))
+
+-- a UTM northing between its ends lies between -90 and 195 tiles, and so does it lowered
+wide : (north : Bool) (n : ℤ) → Between (northings true north) n → (dn n ≤ up n + 18000000000000) × (up n ≤ dn n + 39000000000000)
+unfolding up dn
+wide true n b = let h = b .from in let k = b .to in (omega arith, omega arith)
+wide false n b = let h = b .from in let k = b .to in (omega arith, omega arith)
+
+lowered-by : (x high : ℤ) (t : Bool) → same x high ≡ t → pos 0 ≤ℤ high → (dn x ≤ up x + 18000000000000) × (up x ≤ dn x + 39000000000000) → (negsuc 17999999999999 ≤ℤ cond t (x -ℤ pos 1) x) × (cond t (x -ℤ pos 1) x ≤ℤ pos 39000000000000)
+unfolding up dn
+lowered-by x high true e g (h, k) =
+    let a = rw (← same→eq x high e) at (≤ℤ-parts (pos 0) high g) in
+    let s = sub-parts x (pos 1) in
+    let y = le-true (negsuc 17999999999999) (x -ℤ pos 1) (omega arith) in
+    let z = le-true (x -ℤ pos 1) (pos 39000000000000) (omega arith) in
+    (record { le = subst T (sym y) tt }, record { le = subst T (sym z) tt })
+lowered-by x high false e g (h, k) =
+    let y = le-true (negsuc 17999999999999) x (omega arith) in
+    let z = le-true x (pos 39000000000000) (omega arith) in
+    (record { le = subst T (sym y) tt }, record { le = subst T (sym z) tt })
+
+pub lowered-wide : (north : Bool) (n : ℤ) → Between (northings true north) n → (negsuc 17999999999999 ≤ℤ lowered (northings true north) n) × (lowered (northings true north) n ≤ℤ pos 39000000000000)
+unfolding lowered
+lowered-wide north n b =
+    let high = northings true north .high in
+    lowered-by n high (same n high) refl (north-bounded true north .above) (wide north n b)
+
+-- a northing in that range, moved by a hundred tiles or less
+module _ (n : ℤ) (h : (negsuc 17999999999999 ≤ℤ n) × (n ≤ℤ pos 39000000000000)) (k : ℕ) (small : k ≤ 20000000000000) where
+  pub more-fits : SFits w64 (n +ℤ pos k)
+  unfolding up dn
+  more-fits =
+      let s = add-parts n (pos k) in
+      let a = ≤ℤ-parts (negsuc 17999999999999) n (h .0) in
+      let b = ≤ℤ-parts n (pos 39000000000000) (h .1) in
+      fits-in (n +ℤ pos k) 100000000000000 100000000000000 (omega arith) (omega arith) (lit≤ tt) (lit≤ tt)
+
+  pub less-fits : SFits w64 (n -ℤ pos k)
+  unfolding up dn
+  less-fits =
+      let s = sub-parts n (pos k) in
+      let a = ≤ℤ-parts (negsuc 17999999999999) n (h .0) in
+      let b = ≤ℤ-parts n (pos 39000000000000) (h .1) in
+      fits-in (n -ℤ pos k) 100000000000000 100000000000000 (omega arith) (omega arith) (lit≤ tt) (lit≤ tt)

@@ -1,0 +1,4 @@
+mod Bounds
+pub mod Edges
+pub mod Squares
+pub mod Unique

@@ -1,0 +1,71 @@
+-- `position::edge_of` meets its contract, by what `lowered_of` and `side_of` ensure.
+-- Assumes nothing.
+use mathlib.Core.Path.{_≡_, refl, sym, ap, subst, _∙_}
+use lib.Dec.{T}
+use mathlib.Core.Bool.{Bool, true, false}
+use borrow.Author.Needs.{needs}
+use lib.Signed.{_≤ℤ_}
+use Rattle.whole.proofs.Signed.{back}
+use Rattle.position.specs.Ranges.{eastings, northings}
+use Rattle.position.specs.Edges.{lowered, sideOf, edge}
+use Rattle.position.proofs.Bounds.{Bounded, east-bounded, north-bounded}
+use Rattle.position.proofs.Edges.{Between, inside, lowered-wide}
+use lib.IntN.{ℤ, pos, negsuc, natAbs, _+ℤ_, _-ℤ_, _*ℤ_}
+use mir.Syntax.{w64}
+use mir.Val.{SFits, Fits, toZ, ofZ}
+use mir.Facts.{toZ-ofZ, toZ-pos}
+use Rattle.position.proofs.edge_of.Statement.{statement}
+use Rattle.position.proofs.edge_of.Tie as tie
+
+eastings-of-requires : tie.Need-eastings-of-requires
+eastings-of-requires c κs = search needs
+
+lowered-of-requires : tie.Need-lowered-of-requires
+lowered-of-requires c κs = let s = c .before in rw (c .eastings-of .ensures) (east-bounded (s .args .utm) (s .args .north) .above)
+
+northings-of-requires : tie.Need-northings-of-requires
+northings-of-requires c κs = search needs
+
+lowered-of-requires-2 : tie.Need-lowered-of-requires-2
+lowered-of-requires-2 c κs =
+    let s = c .before .before .before in
+    rw (c .northings-of .ensures) (north-bounded (s .args .utm) (s .args .north) .above)
+
+east : (c : tie.After-lowered-of) → let s = c .before .before in toZ w64 (ofZ w64 (c .lowered-of .result)) ≡ lowered (eastings (s .args .utm) (s .args .north)) (s .args .easting)
+east c =
+    let s = c .before .before in
+    back _ _ (c .lowered-of .ok) (rw (toZ-ofZ (s .fits .easting), c .before .eastings-of .ensures) at (c .lowered-of .ensures))
+
+north : (c : tie.After-lowered-of2) → let s = c .before .before .before .before in toZ w64 (ofZ w64 (c .lowered-of2 .result)) ≡ lowered (northings (s .args .utm) (s .args .north)) (s .args .northing)
+north c =
+    let s = c .before .before .before .before in
+    back _ _ (c .lowered-of2 .ok) (rw (toZ-ofZ (s .fits .northing), c .before .northings-of .ensures) at (c .lowered-of2 .ensures))
+
+utm-wide : (utm north : Bool) (n : ℤ) → utm ≡ true → Between (northings utm north) n → (negsuc 17999999999999 ≤ℤ lowered (northings utm north) n) × (lowered (northings utm north) n ≤ℤ pos 39000000000000)
+utm-wide true north n e b = lowered-wide north n b
+utm-wide false north n e b = absurd (subst T (sym e) tt)
+
+side-of-requires : tie.Need-side-of-requires
+side-of-requires c κs =
+    let l = c .before in
+    let s = l .before .before .before .before in
+    let b = inside (s .args .utm) (s .args .north) (s .args .easting) (s .args .northing) (s .pre) .1 in
+    rw (north l) (utm-wide (s .args .utm) (s .args .north) (s .args .northing) (c .if1 .taken) b)
+
+returns : tie.Need-returns
+unfolding edge
+returns c =
+    let t = c .before in
+    let l = t .before in
+    let s = l .before .before .before .before in
+    let e = rw (east (l .before .before), north l) at (c .side-of .ensures) in
+    rw (e, t .if1 .taken)
+
+returns-2 : tie.Need-returns-2
+unfolding edge
+returns-2 c =
+    let l = c .before in
+    rw (east (l .before .before), north l, c .if1 .left)
+
+pub edge-of-spec : {M : Type 1} → statement M
+edge-of-spec = tie.close (tie.spec eastings-of-requires lowered-of-requires northings-of-requires lowered-of-requires-2 side-of-requires returns returns-2)

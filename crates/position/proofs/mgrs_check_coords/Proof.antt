@@ -1,0 +1,56 @@
+-- `position::mgrs_check_coords` meets its contract, by what `grid_of` and `mgrs_inside` ensure.
+-- Assumes nothing.
+use mathlib.Core.Path.{_≡_, refl, sym, ap, _∙_}
+use borrow.Author.Needs.{needs}
+use Rattle.letters.specs.Sets.{gridOf}
+use Rattle.position.specs.Edges.{mgrsCheck}
+use lib.IntN.{ℤ, pos, negsuc, natAbs, _+ℤ_, _-ℤ_, _*ℤ_}
+use mir.Syntax.{w64}
+use mir.Val.{SFits, Fits, toZ, ofZ}
+use mir.Facts.{toZ-ofZ, toZ-pos}
+use Rattle.position.proofs.mgrs_check_coords.Statement.{statement}
+use Rattle.position.proofs.mgrs_check_coords.Tie as tie
+
+grid : (c : tie.After-grid-of) → c .grid-of .result ≡ gridOf (c .before .args .zone)
+grid c = rw (toZ-ofZ (c .before .fits .zone)) at (c .grid-of .ensures)
+
+grid-of-requires : tie.Need-grid-of-requires
+grid-of-requires c κs = search needs
+
+enum-told : tie.Need-enum-told
+enum-told c = search needs
+
+mgrs-inside-requires : tie.Need-mgrs-inside-requires
+mgrs-inside-requires c κs = search needs
+
+enum-told-2 : tie.Need-enum-told-2
+enum-told-2 c = search needs
+
+mgrs-inside-requires-2 : tie.Need-mgrs-inside-requires-2
+mgrs-inside-requires-2 c κs = search needs
+
+enum-told-3 : tie.Need-enum-told-3
+enum-told-3 c = search needs
+
+returns : tie.Need-returns
+unfolding mgrsCheck
+returns c =
+    let t = c .before in
+    let s = t .before .before .before in
+    let k = sym (grid (t .before .before)) ∙ t .enum-told .given .1 in
+    rw k (rw (toZ-ofZ (s .fits .easting), toZ-ofZ (s .fits .northing)) at (c .mgrs-inside .ensures))
+
+returns-2 : tie.Need-returns-2
+unfolding mgrsCheck
+returns-2 c =
+    let t = c .before in
+    let s = t .before .before .before in
+    let k = sym (grid (t .before .before)) ∙ t .enum-told2 .given .1 in
+    rw k (rw (toZ-ofZ (s .fits .easting), toZ-ofZ (s .fits .northing)) at (c .mgrs-inside2 .ensures))
+
+returns-3 : tie.Need-returns-3
+unfolding mgrsCheck
+returns-3 c = let k = sym (grid (c .before .before)) ∙ c .enum-told3 .given .1 in rw k
+
+pub mgrs-check-coords-spec : {M : Type 1} → statement M
+mgrs-check-coords-spec = tie.close (tie.spec grid-of-requires enum-told mgrs-inside-requires enum-told-2 mgrs-inside-requires-2 enum-told-3 returns returns-2 returns-3)

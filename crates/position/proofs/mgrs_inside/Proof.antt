@@ -1,0 +1,52 @@
+-- `position::mgrs_inside` meets its contract, by what `out_axis` and `edge_of` ensure.
+-- Assumes nothing.
+use mathlib.Core.Path.{_≡_, refl, sym, ap, _∙_}
+use borrow.Author.Needs.{needs}
+use Rattle.position.specs.Ranges.{outAxis}
+use Rattle.position.specs.Edges.{mgrsInside}
+use lib.IntN.{ℤ, pos, negsuc, natAbs, _+ℤ_, _-ℤ_, _*ℤ_}
+use mir.Syntax.{w64}
+use mir.Val.{SFits, Fits, toZ, ofZ}
+use mir.Facts.{toZ-ofZ, toZ-pos}
+use Rattle.position.proofs.mgrs_inside.Statement.{statement}
+use Rattle.position.proofs.mgrs_inside.Tie as tie
+
+out-axis-requires : tie.Need-out-axis-requires
+out-axis-requires c κs = (record { le = tt }, record { le = tt })
+
+axis : (c : tie.After-out-axis) → let s = c .before in c .out-axis .result ≡ outAxis (pos 0) (s .args .utm) (s .args .north) (s .args .easting) (s .args .northing)
+axis c = let s = c .before in rw (toZ-ofZ (s .fits .easting), toZ-ofZ (s .fits .northing)) at (c .out-axis .ensures)
+
+enum-told : tie.Need-enum-told
+enum-told c = search needs
+
+enum-told-2 : tie.Need-enum-told-2
+enum-told-2 c = search needs
+
+enum-told-3 : tie.Need-enum-told-3
+enum-told-3 c = search needs
+
+edge-of-requires : tie.Need-edge-of-requires
+edge-of-requires c κs =
+    let s = c .before .before .before in
+    rw (toZ-ofZ (s .fits .easting), toZ-ofZ (s .fits .northing)) (sym (axis (c .before .before)) ∙ c .enum-told .given .1)
+
+returns : tie.Need-returns
+unfolding mgrsInside
+returns c =
+    let t = c .before in
+    let s = t .before .before .before in
+    let k = sym (axis (t .before .before)) ∙ t .enum-told .given .1 in
+    let e = rw (toZ-ofZ (s .fits .easting), toZ-ofZ (s .fits .northing)) at (c .edge-of .ensures) in
+    rw (k, e)
+
+returns-2 : tie.Need-returns-2
+unfolding mgrsInside
+returns-2 c = let k = sym (axis (c .before .before)) ∙ c .enum-told2 .given .1 in rw k
+
+returns-3 : tie.Need-returns-3
+unfolding mgrsInside
+returns-3 c = let k = sym (axis (c .before .before)) ∙ c .enum-told3 .given .1 in rw k
+
+pub mgrs-inside-spec : {M : Type 1} → statement M
+mgrs-inside-spec = tie.close (tie.spec out-axis-requires enum-told edge-of-requires enum-told-2 enum-told-3 returns returns-2 returns-3)

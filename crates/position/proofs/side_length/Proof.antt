@@ -1,0 +1,30 @@
+-- `position::side_length` meets its contract, by what `half_of` ensures.
+-- Assumes nothing.
+use mathlib.Core.Path.{_≡_, refl, sym, ap, _∙_}
+use borrow.Author.Needs.{needs}
+use Prim.Native.Nat.{ℕ, suc, _+_, _-_, _*_, _^_, _≤_, _<_}
+use native.Mathlib.Omega.{arith}
+use Rattle.position.specs.Squares.{halfOf, sideLength}
+use Rattle.position.proofs.Squares.{half-le}
+use lib.IntN.{ℤ, pos, negsuc, natAbs, _+ℤ_, _-ℤ_, _*ℤ_}
+use mir.Syntax.{w64}
+use mir.Val.{SFits, Fits, toZ, ofZ}
+use mir.Facts.{toZ-ofZ, toZ-pos}
+use Rattle.position.proofs.side_length.Statement.{statement}
+use Rattle.position.proofs.side_length.Tie as tie
+
+half : (c : tie.After-half-of) → c .half-of .result ≡ halfOf (c .before .args .p)
+half c = rw (toZ-ofZ (c .before .fits .p)) at (c .half-of .ensures)
+
+half-of-requires : tie.Need-half-of-requires
+half-of-requires c κs = search needs
+
+mul-result : tie.Need-mul-result
+mul-result c = let h = half-le (c .before .args .p) in rw (half c) (record { fits = omega arith })
+
+returns : tie.Need-returns
+unfolding sideLength
+returns c = rw (half c)
+
+pub side-length-spec : {M : Type 1} → statement M
+side-length-spec = tie.close (tie.spec half-of-requires mul-result returns)

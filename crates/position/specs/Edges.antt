@@ -1,0 +1,41 @@
+-- The edge rules and the MGRS range test: document 01, "Writing". Assumes nothing.
+use mathlib.Core.Bool.{Bool, true, false, cond}
+use lib.IntN.{ℤ, pos, _+ℤ_, _-ℤ_}
+use lib.Signed.{ltZ, leZ}
+use Rattle.whole.specs.Compare.{same}
+use Rattle.letters.specs.Sets.{gridOf, byGrid}
+use Rattle.position.specs.declared.Ends.{Ends}
+use Rattle.position.specs.declared.Point.{Point}
+use Rattle.position.specs.declared.MgrsCheck.{MgrsCheck}
+use Rattle.position.specs.declared.MgrsCheck.the-variants.{Moved, Refused}
+use Rattle.position.specs.Ranges.{tiles, eastings, northings, outAxis, byAxis}
+
+-- "a value exactly on the upper end is first lowered by one unit."
+unfoldable pub lowered : Ends → ℤ → ℤ
+lowered ends x = cond (same x (ends .high)) (x -ℤ pos 1) x
+
+abbrev pub point : Bool → ℤ → ℤ → Point
+point north e n = record { north = north; easting = e; northing = n }
+
+-- "Then, UTM only: north below 0 becomes south plus 100 tiles; south at exactly 100 tiles is lowered by one unit and
+-- stays south; south above that becomes north minus 100 tiles."
+unfoldable pub sideOf : Bool → ℤ → ℤ → Point
+sideOf true e n = cond (ltZ n (pos 0)) (point false e (n +ℤ tiles (pos 100))) (point true e n)
+sideOf false e n =
+    cond (ltZ n (tiles (pos 100))) (point false e n)
+    (cond (leZ n (tiles (pos 100))) (point false e (n -ℤ pos 1)) (point true e (n -ℤ tiles (pos 100))))
+
+-- The point after the edge rules.
+unfoldable pub edge : Bool → Bool → ℤ → ℤ → Point
+edge utm north e n =
+    let e′ = lowered (eastings utm north) e in
+    let n′ = lowered (northings utm north) n in
+    cond utm (sideOf north e′ n′) (point north e′ n′)
+
+-- "lower end in, upper end by the edge rule": no margin, and the upper end is in, to be lowered.
+unfoldable pub mgrsInside : Bool → Bool → ℤ → ℤ → MgrsCheck
+mgrsInside utm north e n = byAxis (outAxis (pos 0) utm north e n) (Moved (edge utm north e n)) Refused
+
+-- "MGRS range test: 14, 16, 17 by the ranges above." "14 zone not 0..60"
+unfoldable pub mgrsCheck : ℤ → Bool → ℤ → ℤ → MgrsCheck
+mgrsCheck zone north e n = byGrid (gridOf zone) (mgrsInside true north e n) (mgrsInside false north e n) (Refused 14)

@@ -1,0 +1,4 @@
+pub mod Ranges
+pub mod Edges
+pub mod Squares
+pub mod Metres

@@ -1,0 +1,57 @@
+-- The ranges of eastings and northings, and the UTM range test: document 01, "Writing" and "Smaller services". Assumes nothing.
+use mathlib.Core.Bool.{Bool, true, false, cond}
+use Prim.Native.Nat.{ℕ}
+use lib.IntN.{ℤ, pos, negsuc, _+ℤ_, _-ℤ_, _*ℤ_}
+use lib.Signed.{ltZ}
+use Rattle.letters.specs.Sets.{gridOf, byGrid}
+use Rattle.position.specs.declared.Ends.{Ends}
+use Rattle.position.specs.declared.OutAxis.{OutAxis}
+use Rattle.position.specs.declared.OutAxis.the-variants.{Neither, Easting, Northing}
+use Rattle.position.specs.declared.UtmCheck.{UtmCheck}
+use Rattle.position.specs.declared.UtmCheck.the-variants.{InRange, Refused}
+
+-- "2,000,000 to the metre, 2 x 10^11 to a tile (100 km)."
+abbrev pub tiles : ℤ → ℤ
+tiles t = t *ℤ pos 200000000000
+
+abbrev pub from-to : ℤ → ℤ → Ends
+from-to a b = record { low = tiles a; high = tiles b }
+
+-- "Ranges in tiles ..: easting UPS south 8-32, UPS north 13-27, UTM 1-9", of UTM or UPS, north or south.
+abbrev pub eastings : Bool → Bool → Ends
+eastings true north = from-to (pos 1) (pos 9)
+eastings false true = from-to (pos 13) (pos 27)
+eastings false false = from-to (pos 8) (pos 32)
+
+-- "northing UPS the same as its easting, UTM south 10-195, UTM north -90 to 95": -90 is `negsuc 89`.
+abbrev pub northings : Bool → Bool → Ends
+northings false north = eastings false north
+northings true false = from-to (pos 10) (pos 195)
+northings true true = from-to (negsuc 89) (pos 95)
+
+-- Both ends "moved outward" by a margin.
+abbrev pub moved : ℤ → Ends → Ends
+moved margin ends = record { low = ends .low -ℤ margin; high = ends .high +ℤ margin }
+
+-- Below the lower end or above the upper one: both ends are in.
+unfoldable pub outOf : Ends → ℤ → Bool
+outOf ends x = cond (ltZ x (ends .low)) true (ltZ (ends .high) x)
+
+-- "16 easting out of range; 17 northing out of range": which of the two, easting first.
+unfoldable pub outAxis : ℤ → Bool → Bool → ℤ → ℤ → OutAxis
+outAxis margin utm north e n =
+    cond (outOf (moved margin (eastings utm north)) e) Easting
+    (cond (outOf (moved margin (northings utm north)) n) Northing Neither)
+
+abbrev pub byAxis : {A : Type 0} → OutAxis → A → (ℕ → A) → A
+byAxis Neither inside refused = inside
+byAxis Easting inside refused = refused 16
+byAxis Northing inside refused = refused 17
+
+-- "UTM range test: the same numbers, both ends in and moved outward by one tile."
+unfoldable pub utmInside : Bool → Bool → ℤ → ℤ → UtmCheck
+utmInside utm north e n = byAxis (outAxis (tiles (pos 1)) utm north e n) InRange Refused
+
+-- "14 zone not 0..60"
+unfoldable pub utmCheck : ℤ → Bool → ℤ → ℤ → UtmCheck
+utmCheck zone north e n = byGrid (gridOf zone) (utmInside true north e n) (utmInside false north e n) (Refused 14)

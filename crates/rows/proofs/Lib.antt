@@ -1,0 +1,6 @@
+pub mod Near
+pub mod Period
+pub mod First
+pub mod Theorems
+mod Back
+pub mod Unique

@@ -1,0 +1,57 @@
+-- `rows::is_folded` meets its contract, by what the functions that it calls ensure.
+-- Assumes nothing.
+use mathlib.Core.Path.{_≡_, refl, sym, ap, _∙_}
+use mathlib.Core.Bool.{true, false}
+use Prim.Native.Nat.{ℕ, _+_, _-_, _*_, _%_, _^_, _<_, _≤_}
+use native.Mathlib.Omega.{arith}
+use native.Mathlib.Nat.{lt-trans}
+use borrow.Author.Needs.{needs}
+use borrow.Author.Tests.{le-leb, lt-leb, eq-eqb, ne-eqb}
+use lib.Dec.{lit<}
+use lib.IntN.{ℤ, pos, negsuc, natAbs, _+ℤ_, _-ℤ_}
+use mir.Syntax.{w64}
+use mir.Val.{SFits, Fits, toZ, ofZ}
+use mir.Facts.{toZ-ofZ, toZ-pos}
+use Rattle.whole.specs.Floor.{fold}
+use Rattle.rows.specs.Allowed.{foldColumn, case, sameSign, folded}
+use Rattle.rows.proofs.is_folded.Statement.{statement}
+use Rattle.rows.proofs.is_folded.Tie as tie
+
+same-sign-requires : tie.Need-same-sign-requires
+same-sign-requires c κs = search needs
+
+fold-of-requires : tie.Need-fold-of-requires
+fold-of-requires c κs = search needs
+
+fold-of-requires-2 : tie.Need-fold-of-requires-2
+fold-of-requires-2 c κs = search needs
+
+fold-column-requires : tie.Need-fold-column-requires
+fold-column-requires c κs = search needs
+
+is-case-requires : tie.Need-is-case-requires
+is-case-requires c κs = search needs
+
+sign : (c : tie.After-same-sign) → c .same-sign .result ≡ sameSign (c .before .args .band) (c .before .args .row)
+sign c = simp (toZ-ofZ (c .before .fits .band), toZ-ofZ (c .before .fits .row)) at (c .same-sign .ensures)
+
+returns : tie.Need-returns
+returns c =
+    let fc = c .before in
+    let f2 = fc .before in
+    let f1 = f2 .before in
+    let t = f1 .before in
+    let s = t .before .before in
+    let e1 : f1 .fold-of .result ≡ fold (s .args .row) = rw (toZ-ofZ (s .fits .row)) at (f1 .fold-of .ensures) in
+    let e2 : f2 .fold-of2 .result ≡ fold (s .args .band) = rw (toZ-ofZ (s .fits .band)) at (f2 .fold-of2 .ensures) in
+    let k : sameSign (s .args .band) (s .args .row) ≡ true = sym (sign (t .before)) ∙ t .if1 .taken in
+    c .is-case .ensures ∙ simp (e1, e2, fc .fold-column .ensures, k)
+
+returns-2 : tie.Need-returns-2
+returns-2 c =
+    let s = c .before .before in
+    let k : sameSign (s .args .band) (s .args .row) ≡ false = sym (sign (c .before)) ∙ c .if1 .left in
+    simp k
+
+pub is-folded-spec : {M : Type 1} → statement M
+is-folded-spec = tie.close (tie.spec same-sign-requires fold-of-requires fold-of-requires-2 fold-column-requires is-case-requires returns returns-2)

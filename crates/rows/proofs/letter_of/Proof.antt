@@ -1,0 +1,37 @@
+-- `rows::letter_of` meets its contract, by what `floor_mod` ensures.
+-- Assumes nothing.
+use mathlib.Core.Path.{_≡_, refl, sym, ap, _∙_}
+use mathlib.Core.Bool.{true, false}
+use Prim.Native.Nat.{ℕ, _+_, _-_, _*_, _%_, _^_, _<_, _≤_}
+use native.Mathlib.Omega.{arith}
+use native.Mathlib.Nat.{lt-trans}
+use borrow.Author.Needs.{needs}
+use borrow.Author.Tests.{le-leb, lt-leb, eq-eqb, ne-eqb}
+use lib.Dec.{lit<}
+use lib.IntN.{ℤ, pos, negsuc, natAbs, _+ℤ_, _-ℤ_}
+use mir.Syntax.{w64}
+use mir.Val.{SFits, Fits, toZ, ofZ}
+use mir.Facts.{toZ-ofZ, toZ-pos}
+use Rattle.whole.specs.Floor.{floorMod}
+use Rattle.whole.proofs.Floor.{floorMod-lt}
+use Rattle.rows.specs.Letters.{letterOf}
+use Rattle.rows.proofs.Period.{letter-is}
+use Rattle.rows.proofs.letter_of.Statement.{statement}
+use Rattle.rows.proofs.letter_of.Tie as tie
+
+floor-mod-requires : tie.Need-floor-mod-requires
+floor-mod-requires c κs = search needs
+
+rest : (c : tie.After-floor-mod) → c .floor-mod .result ≡ floorMod (c .before .args .row) 20
+rest c = rw (toZ-ofZ (c .before .fits .row)) at (c .floor-mod .ensures)
+
+add-result : tie.Need-add-result
+add-result c =
+    let h = floorMod-lt (c .before .args .row) {d = 20} (lit< tt) in
+    rw (rest c) (record { fits = omega arith })
+
+returns : tie.Need-returns
+returns c = rw (rest c) (letter-is (c .before .args .shift) (c .before .args .row))
+
+pub letter-of-spec : {M : Type 1} → statement M
+letter-of-spec = tie.close (tie.spec floor-mod-requires add-result returns)

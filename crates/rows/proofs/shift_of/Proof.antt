@@ -1,0 +1,35 @@
+-- `rows::shift_of` meets its contract, by what `floor_mod` ensures.
+-- Assumes nothing.
+use mathlib.Core.Path.{_≡_, refl, sym, ap, _∙_}
+use mathlib.Core.Bool.{true, false}
+use Prim.Native.Nat.{ℕ, _+_, _-_, _*_, _%_, _^_, _<_, _≤_}
+use native.Mathlib.Omega.{arith}
+use native.Mathlib.Nat.{lt-trans}
+use borrow.Author.Needs.{needs}
+use borrow.Author.Tests.{le-leb, lt-leb, eq-eqb, ne-eqb}
+use lib.Dec.{lit<}
+use lib.IntN.{ℤ, pos, negsuc, natAbs, _+ℤ_, _-ℤ_}
+use mir.Syntax.{w64}
+use mir.Val.{SFits, Fits, toZ, ofZ}
+use mir.Facts.{toZ-ofZ, toZ-pos}
+use Rattle.whole.specs.Floor.{floorMod}
+use Rattle.rows.specs.Letters.{shiftOf}
+use Rattle.rows.proofs.shift_of.Statement.{statement}
+use Rattle.rows.proofs.shift_of.Tie as tie
+
+floor-mod-requires : tie.Need-floor-mod-requires
+floor-mod-requires c κs = search needs
+
+parity : (c : tie.After-floor-mod) → c .floor-mod .result ≡ floorMod (c .before .args .zone) 2
+parity c = rw (toZ-ofZ (c .before .fits .zone)) at (c .floor-mod .ensures)
+
+returns : tie.Need-returns
+unfolding shiftOf
+returns c = rw (← parity (c .before), eq-eqb _ _ (c .if1 .taken))
+
+returns-2 : tie.Need-returns-2
+unfolding shiftOf
+returns-2 c = rw (← parity (c .before), ne-eqb _ _ (c .if1 .left))
+
+pub shift-of-spec : {M : Type 1} → statement M
+shift-of-spec = tie.close (tie.spec floor-mod-requires returns returns-2)

@@ -1,0 +1,18 @@
+-- How the program reaches the row without trying them all. No public answer speaks of this: that it is the row
+-- of `resolve` is proved. Assumes nothing.
+use Prim.Native.Nat.{ℕ, _+_, _-_, _%_}
+use lib.IntN.{ℤ, pos, _+ℤ_, _-ℤ_}
+use Rattle.whole.specs.Floor.{floorMod}
+use Rattle.rows.specs.Limits.{lowest}
+
+-- Every allowed row lies among the twenty from one below the lowest.
+abbrev pub base : ℤ → ℤ
+base b = lowest b -ℤ pos 1
+
+-- The one among them with the letter of an odd zone.
+unfoldable pub candidate : ℤ → ℕ → ℤ
+candidate b l = base b +ℤ pos (floorMod (pos l -ℤ base b) 20)
+
+-- A letter's place at a shift, as an odd zone counts it.
+unfoldable pub unshifted : ℕ → ℕ → ℕ
+unshifted shift l = (l + 20 - shift % 20) % 20

@@ -1,0 +1,5 @@
+pub mod Limits
+pub mod Allowed
+pub mod Letters
+pub mod Resolve
+pub mod Direct

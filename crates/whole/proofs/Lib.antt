@@ -1,0 +1,6 @@
+pub mod Parts
+pub mod Floor
+pub mod Powers
+pub mod Signed
+pub mod Table
+pub mod Unique

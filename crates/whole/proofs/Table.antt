@@ -1,0 +1,85 @@
+-- A table's rule, proved at all of its rows by one equation of lists, which antt computes: the table is the list of f's values from 0 on.
+-- Or: two rules agree at each number below n where their lists of values are equal. For several indexes, the values of an outer rule are themselves lists.
+-- It holds for rows of any type. Assumes nothing.
+use mathlib.Core.Path.{_≡_, refl, ap, sym, _∙_}
+use mathlib.Core.List.{List, [], _∷_}
+use Prim.Native.Nat.{ℕ, zero, suc, _+_, _<_}
+use native.Mathlib.Nat.{add-zero, zero-add, suc-add, add-suc, le-of-suc-le-suc, not-suc-le-zero}
+use mathlib.Core.Bool.{Bool, true, false}
+use lib.Dec.{T}
+use lib.ListN.{getD}
+
+-- f i, f (i + 1), .., n values
+abbrev pub values : {A : Type 0} → (ℕ → A) → ℕ → ℕ → List A
+values f i zero = []
+values f i (suc n) = f i ∷ values f (suc i) n
+
+from : {A : Type 0} (f : ℕ → A) (i n : ℕ) (d : A) (k : ℕ) → k < n → getD (values f i n) k d ≡ f (i + k)
+from f i zero d k h = absurd (not-suc-le-zero h)
+from f i (suc n) d zero h = ap f (sym (add-zero i))
+from f i (suc n) d (suc k) h = from f (suc i) n d k (le-of-suc-le-suc h) ∙ ap f (suc-add i k ∙ sym (add-suc i k))
+
+pub row : {A : Type 0} (f : ℕ → A) (xs : List A) (n : ℕ) → xs ≡ values f 0 n → (d : A) (k : ℕ) → k < n → getD xs k d ≡ f k
+row f xs n e d k h = rw e (from f 0 n d k h ∙ ap f (zero-add k))
+
+-- the same of a table of tables
+pub row2 : {A : Type 0} (f : ℕ → ℕ → A) (xs : List (List A)) (m n : ℕ) → xs ≡ values (λ i. values (f i) 0 n) 0 m → (d : List A) (e : A) (i k : ℕ) → i < m → k < n → getD (getD xs i d) k e ≡ f i k
+row2 f xs m n t d e i k h g = rw (row (λ i. values (f i) 0 n) xs m t d i h) (row (f i) _ n refl e k g)
+
+head : {A : Type 0} → A → List A → A
+head d [] = d
+head d (x ∷ xs) = x
+
+tail : {A : Type 0} → List A → List A
+tail [] = []
+tail (x ∷ xs) = xs
+
+agree-from : {A : Type 0} (f g : ℕ → A) (i n : ℕ) → values f i n ≡ values g i n → (k : ℕ) → k < n → f (i + k) ≡ g (i + k)
+unfolding head tail
+agree-from f g i zero e k h = absurd (not-suc-le-zero h)
+agree-from f g i (suc n) e zero h = rw (add-zero i) (ap (head (f i)) e)
+agree-from f g i (suc n) e (suc k) h = rw (add-suc i k, ← suc-add i k) (agree-from f g (suc i) n (ap tail e) k (le-of-suc-le-suc h))
+
+pub agree : {A : Type 0} (f g : ℕ → A) (n : ℕ) → values f 0 n ≡ values g 0 n → (k : ℕ) → k < n → f k ≡ g k
+agree f g n e k h = rw (zero-add k) at (agree-from f g 0 n e k h)
+
+-- a test that holds at each number below n, in one computation; for several indexes, a test of tests
+abbrev pub all : ℕ → (ℕ → Bool) → Bool
+all zero f = true
+all (suc n) f = elim (f 0) [ true ↦ all n (λ k. f (suc k)) | false ↦ false ]
+
+first-of : (a b : Bool) → T (elim a [ true ↦ b | false ↦ false ]) → T a
+first-of true b t = tt
+first-of false b t = t
+
+second-of : (a b : Bool) → T (elim a [ true ↦ b | false ↦ false ]) → T b
+second-of true b t = t
+second-of false b t = absurd t
+
+pub each : (n : ℕ) (f : ℕ → Bool) → T (all n f) → (k : ℕ) → k < n → T (f k)
+each zero f t k h = absurd (not-suc-le-zero h)
+each (suc n) f t zero h = first-of (f 0) (all n (λ k. f (suc k))) t
+each (suc n) f t (suc k) h = each n (λ k. f (suc k)) (second-of (f 0) (all n (λ k. f (suc k))) t) k (le-of-suc-le-suc h)
+
+pub each2 : (m n : ℕ) (f : ℕ → ℕ → Bool) → T (all m (λ i. all n (f i))) → (i k : ℕ) → i < m → k < n → T (f i k)
+each2 m n f t i k h g = each n (f i) (each m (λ i. all n (f i)) t i h) k g
+
+pub each3 : (l m n : ℕ) (f : ℕ → ℕ → ℕ → Bool) → T (all l (λ i. all m (λ j. all n (f i j)))) → (i j k : ℕ) → i < l → j < m → k < n → T (f i j k)
+each3 l m n f t i j k h g o = each2 m n (f i) (each l (λ i. all m (λ j. all n (f i j))) t i h) j k g o
+
+-- a test that every element of a list passes
+abbrev pub every : {A : Type 0} → (A → Bool) → List A → Bool
+every f [] = true
+every f (x ∷ xs) = elim (f x) [ true ↦ every f xs | false ↦ false ]
+
+pub every-head : {A : Type 0} (f : A → Bool) (x : A) (xs : List A) → T (every f (x ∷ xs)) → T (f x)
+every-head f x xs t = first-of (f x) (every f xs) t
+
+pub every-tail : {A : Type 0} (f : A → Bool) (x : A) (xs : List A) → T (every f (x ∷ xs)) → T (every f xs)
+every-tail f x xs t = second-of (f x) (every f xs) t
+
+-- and so does whatever stands at a place, if the default does
+pub every-at : {A : Type 0} (f : A → Bool) (xs : List A) (d : A) → T (every f xs) → T (f d) → (k : ℕ) → T (f (getD xs k d))
+every-at f [] d t u k = u
+every-at f (x ∷ xs) d t u zero = every-head f x xs t
+every-at f (x ∷ xs) d t u (suc k) = every-at f xs d (every-tail f x xs t) u k

@@ -1,0 +1,48 @@
+-- `whole::floor_mod` meets its contract: the remainder of the folded number, counted from the other end below zero.
+-- Assumes nothing.
+use mathlib.Core.Path.{_≡_, _∙_, sym}
+use mathlib.Core.Bool.{true, false}
+use Prim.Native.Nat.{ℕ, _-_, _%_, _<_}
+use native.Mathlib.Nat.{mod-lt}
+use native.Mathlib.Omega.{arith}
+use borrow.Author.Needs.{needs}
+use mir.Facts.{toZ-ofZ}
+use Rattle.whole.specs.Floor.{fold, floorMod}
+use Rattle.whole.proofs.Floor.{by-zero, mod-below, mod-above}
+use Rattle.whole.proofs.floor_mod.Statement.{statement}
+use Rattle.whole.proofs.floor_mod.Tie as tie
+
+folded : (c : tie.After-fold-of) → c .fold-of .result ≡ fold (c .before .before .args .x)
+folded c = rw (toZ-ofZ (c .before .before .fits .x)) at (c .fold-of .ensures)
+
+returns : tie.Need-returns
+returns c = sym (by-zero (c .before .args .x) (c .before .args .d) (c .if1 .taken) .1)
+
+fold-of-requires : tie.Need-fold-of-requires
+fold-of-requires c κs = search needs
+
+rem-m : tie.Need-rem-m
+rem-m c = search needs
+
+sub-result : tie.Need-sub-result
+sub-result c = search needs
+
+sub-result-2 : tie.Need-sub-result-2
+sub-result-2 c =
+    let s = c .before .before .before in
+    let p : 0 < s .args .d = search needs in
+    omega (arith, mod-lt (c .before .fold-of .result) p)
+
+returns-2 : tie.Need-returns-2
+returns-2 c =
+    let s = c .before .before .before in
+    rw (folded (c .before)) (sym (mod-below (s .args .x) (search needs) (rw (toZ-ofZ (s .fits .x)) at (c .if2 .taken))))
+
+returns-3 : tie.Need-returns-3
+returns-3 c =
+    let s = c .before .before .before in
+    rw (folded (c .before)) (sym (mod-above (s .args .x) (search needs) (rw (toZ-ofZ (s .fits .x)) at (c .if2 .left))))
+
+pub floor-mod-spec : {M : Type 1} → statement M
+floor-mod-spec =
+    tie.close (tie.spec returns fold-of-requires rem-m sub-result sub-result-2 returns-2 returns-3)

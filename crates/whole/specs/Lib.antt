@@ -1,0 +1,4 @@
+pub mod Compare
+pub mod Floor
+pub mod Powers
+pub mod Text

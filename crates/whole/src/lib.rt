@@ -1,0 +1,68 @@
+// Whole numbers: division of a signed number that rounds down, and powers of ten.
+ghost use mathlib.Core.Path.{_≡_};
+ghost use Rattle.whole.specs.Floor.{fold, floorDiv, floorMod};
+ghost use Rattle.whole.specs.Powers.{powerOfTen};
+
+// A negative v as -v-1, any other as it is: how rows and bands are mirrored, and how the division
+// below gets by with unsigned numbers.
+pub fn fold_of(v: i64) -> u64
+    ensures { λ r. ⌜ r ≡ fold v ⌝ }
+{
+    if v < 0 {
+        return (-1 - v) as u64;
+    }
+    v as u64
+}
+
+// x divided by d, rounded down; 0 where d is 0.
+pub fn floor_div(x: i64, d: u64) -> i64
+    ensures { λ r. ⌜ r ≡ floorDiv x d ⌝ }
+{
+    if d == 0 {
+        return 0;
+    }
+    let q = (fold_of(x) / d) as i64;
+    if x < 0 {
+        return -1 - q;
+    }
+    q
+}
+
+// What floor_div leaves of x: 0 up to d-1; 0 where d is 0.
+pub fn floor_mod(x: i64, d: u64) -> u64
+    ensures { λ r. ⌜ r ≡ floorMod x d ⌝ }
+{
+    if d == 0 {
+        return 0;
+    }
+    let m = fold_of(x) % d;
+    if x < 0 {
+        return d - 1 - m;
+    }
+    m
+}
+
+const POWERS: [u64; 12] = [
+    1,
+    10,
+    100,
+    1_000,
+    10_000,
+    100_000,
+    1_000_000,
+    10_000_000,
+    100_000_000,
+    1_000_000_000,
+    10_000_000_000,
+    100_000_000_000,
+];
+
+// 10 to the k-th for k up to 11; 0 above, which is no power of ten.
+pub fn power_of_ten(k: usize) -> u64
+    ensures { λ r. ⌜ r ≡ powerOfTen k ⌝ }
+{
+    if 11 < k {
+        return 0;
+    }
+    POWERS[k]
+}

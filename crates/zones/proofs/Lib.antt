@@ -1,0 +1,2 @@
+mod Degrees
+pub mod Unique

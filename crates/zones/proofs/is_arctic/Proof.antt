@@ -1,0 +1,30 @@
+-- `zones::is_arctic` meets its contract.
+-- Assumes nothing.
+use mathlib.Core.Bool.{true, false, _&&_}
+use lib.Dec.{lit<}
+use mir.Facts.{toZ-ofZ}
+use Rattle.whole.specs.Compare.{isNumber}
+use Rattle.whole.proofs.Signed.{is, is-not}
+use Rattle.zones.specs.Zones.{arctic}
+use Rattle.zones.proofs.is_arctic.Statement.{statement}
+use Rattle.zones.proofs.is_arctic.Tie as tie
+
+returns : tie.Need-returns
+returns c =
+    let s = c .before .before in
+    let a = is (s .args .band) 9 (s .fits .band) (lit< tt) (c .before .if1 .taken) in
+    let b = rw (toZ-ofZ (s .fits .d)) at (c .if2 .taken) in
+    simp (toZ-ofZ (s .fits .d), a, b)
+
+returns-2 : tie.Need-returns-2
+returns-2 c =
+    let s = c .before .before in
+    let a = is (s .args .band) 9 (s .fits .band) (lit< tt) (c .before .if1 .taken) in
+    let b = rw (toZ-ofZ (s .fits .d)) at (c .if2 .left) in
+    simp (a, b)
+
+returns-3 : tie.Need-returns-3
+returns-3 c = let a = is-not (c .before .args .band) 9 (c .if1 .left) in simp a
+
+pub is-arctic-spec : {M : Type 1} → statement M
+is-arctic-spec = tie.close (tie.spec returns returns-2 returns-3)

@@ -1,0 +1,59 @@
+-- `zones::turned_degrees` meets its contract, by what `floor_mod` ensures.
+-- Assumes nothing.
+use mathlib.Core.Path.{_≡_, sym, _∙_}
+use borrow.Author.Needs.{needs}
+use Rattle.whole.proofs.Signed.{back}
+use native.Mathlib.Omega.{arith}
+use Prim.Native.Nat.{_<_}
+use lib.Dec.{lit<}
+use Rattle.whole.specs.Floor.{floorMod}
+use Rattle.whole.proofs.Floor.{floorMod-lt}
+use Rattle.zones.specs.Zones.{degrees, turned}
+use Rattle.zones.proofs.Degrees.{sum-fits, turned-range, near-fits}
+use mir.Facts.{toZ-pos}
+use mir.Val.{SFits}
+use lib.IntN.{ℤ, pos, negsuc, _+ℤ_, _-ℤ_, _*ℤ_}
+use mir.Syntax.{w64}
+use mir.Val.{toZ, ofZ}
+use mir.Facts.{toZ-ofZ}
+use Rattle.zones.proofs.turned_degrees.Statement.{statement}
+use Rattle.zones.proofs.turned_degrees.Tie as tie
+
+d-is : (c : tie.After-degrees-of) → toZ w64 (ofZ w64 (c .degrees-of .result)) ≡ degrees (c .before .args .longitude)
+d-is c = back _ _ (c .degrees-of .ok) (rw (toZ-ofZ (c .before .fits .longitude)) at (c .degrees-of .ensures))
+
+rest : (c : tie.After-floor-mod) → c .floor-mod .result ≡ floorMod (degrees (c .before .before .args .longitude) +ℤ pos 180) 360
+rest c =
+    let d = c .before in
+    rw (d-is d, toZ-ofZ (sum-fits (d .before .args .longitude) (d .before .fits .longitude))) at (c .floor-mod .ensures)
+
+small : (z : ℤ) → SFits w64 (pos (floorMod z 360))
+small z = let h = floorMod-lt z {d = 360} (lit< tt) in record { sfits = omega arith }
+
+difference : (c : tie.After-floor-mod) → toZ w64 (c .floor-mod .result) -ℤ pos 180 ≡ turned (degrees (c .before .before .args .longitude))
+unfolding turned
+difference c = rw (rest c, toZ-pos w64 (small (degrees (c .before .before .args .longitude) +ℤ pos 180) .sfits))
+
+fits : (c : tie.After-floor-mod) → SFits w64 (turned (degrees (c .before .before .args .longitude)))
+fits c = let d = degrees (c .before .before .args .longitude) in near-fits (turned d) (turned-range d)
+
+degrees-of-requires : tie.Need-degrees-of-requires
+degrees-of-requires c κs = search needs
+
+add-floor-mod : tie.Need-add-floor-mod
+add-floor-mod c = rw (d-is c) (sum-fits (c .before .args .longitude) (c .before .fits .longitude))
+
+floor-mod-requires : tie.Need-floor-mod-requires
+floor-mod-requires c κs = search needs
+
+cast-result : tie.Need-cast-result
+cast-result c = rw (rest c) (small (degrees (c .before .before .args .longitude) +ℤ pos 180))
+
+sub-result : tie.Need-sub-result
+sub-result c = rw (difference c) (fits c)
+
+returns : tie.Need-returns
+returns c = rw (difference c) (toZ-ofZ (fits c))
+
+pub turned-degrees-spec : {M : Type 1} → statement M
+turned-degrees-spec = tie.close (tie.spec degrees-of-requires add-floor-mod floor-mod-requires cast-result sub-result returns)
