@@ -8,7 +8,7 @@ use Rattle.letters.specs.declared.Place.{Place}
 use Rattle.letters.specs.declared.Place.the-variants.{At, NotInSet}
 use Rattle.letters.specs.Letters.{placeOf}
 use Rattle.letters.specs.Tables.{codeOf}
-use Rattle.letters.proofs.Laws.{no-capital, place-lt}
+use Rattle.letters.proofs.Laws.{no-capital}
 use Rattle.letters.proofs.place_of.Statement.{statement}
 use Rattle.letters.proofs.place_of.Tie as tie
 
@@ -19,13 +19,13 @@ coded c =
     let e : 65 + (s .args .letter - 65) ≡ s .args .letter = omega arith in
     rw e at (c .coded-place .ensures)
 
--- back from the table's byte; no place is 99
-none : (p : Place) (x : ℕ) → x ≡ codeOf p → ((k : ℕ) → p ≡ At k → k < 24) → x ≡ 99 → NotInSet ≡ p
-none (At k) x e small h = absurd (let s = small k refl in omega arith)
-none NotInSet x e small h = refl
+-- back from the table's byte: no place is written as a dot
+none : (p : Place) (x : ℕ) → x ≡ codeOf p → x ≡ 46 → NotInSet ≡ p
+none (At k) x e h = absurd (omega arith)
+none NotInSet x e h = refl
 
-one : (p : Place) (x : ℕ) → x ≡ codeOf p → (x ≡ 99 → ⊥) → At x ≡ p
-one (At k) x e h = ap At e
+one : (p : Place) (x : ℕ) → x ≡ codeOf p → (x ≡ 46 → ⊥) → (97 ≤ x) × (At (x - 97) ≡ p)
+one (At k) x e h = (omega arith, ap At (omega arith))
 one NotInSet x e h = absurd (h e)
 
 returns : tie.Need-returns
@@ -43,15 +43,23 @@ coded-place-requires c κs = search needs
 returns-3 : tie.Need-returns-3
 returns-3 c =
     let s = c .before .before .before .before in
-    none (placeOf (s .args .set) (s .args .letter)) (c .before .coded-place .result) (coded (c .before)) (place-lt (s .args .set) (s .args .letter)) (c .if3 .taken)
+    none (placeOf (s .args .set) (s .args .letter)) (c .before .coded-place .result) (coded (c .before)) (c .if3 .taken)
 
-cast-t6 : tie.Need-cast-t6
-cast-t6 c = search needs
-
-returns-4 : tie.Need-returns-4
-returns-4 c =
+a-place : (c : tie.Else3) → let s = c .before .before .before .before in (97 ≤ c .before .coded-place .result) × (At (c .before .coded-place .result - 97) ≡ placeOf (s .args .set) (s .args .letter))
+a-place c =
     let s = c .before .before .before .before in
     one (placeOf (s .args .set) (s .args .letter)) (c .before .coded-place .result) (coded (c .before)) (c .if3 .left)
 
+sub-k : tie.Need-sub-k
+sub-k c = a-place c .0
+
+cast-k : tie.Need-cast-k
+cast-k c = search needs
+
+returns-4 : tie.Need-returns-4
+returns-4 c = a-place c .1
+
 pub place-of-spec : {M : Type 1} → statement M
-place-of-spec = tie.close (tie.spec returns returns-2 cast-coded-place coded-place-requires returns-3 cast-t6 returns-4)
+place-of-spec =
+    tie.close
+    (tie.spec returns returns-2 cast-coded-place coded-place-requires returns-3 sub-k cast-k returns-4)

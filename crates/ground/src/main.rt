@@ -1,0 +1,477 @@
+// Runs the worked examples of document 01 that belong to this layer and prints each with its answer.
+// The gate holds what is printed to the file stdout, which was made from document 01 and not from this program.
+use letters::LetterSet;
+use letters::Place;
+use libc::STDOUT_FILENO;
+use position::MetresAnswer;
+use position::MgrsCheck;
+use position::UtmCheck;
+use rows::RowAnswer;
+use zones::ZoneAnswer;
+ghost use Prim.Native.Nat.{_<_};
+
+fn say(text: &[u8]) {
+    io::write_all(STDOUT_FILENO, text);
+}
+
+fn number(n: u64) {
+    say(b" ");
+    io::print_decimal(STDOUT_FILENO, n);
+}
+
+fn signed(z: i64) {
+    if z < 0 {
+        say(b" -");
+        io::print_decimal(STDOUT_FILENO, whole::fold_of(z) + 1);
+        return;
+    }
+    number(whole::fold_of(z));
+}
+
+fn hemisphere(north: bool) {
+    if north {
+        say(b" N");
+        return;
+    }
+    say(b" S");
+}
+
+// The lowest and the highest row of a band.
+fn limits(band: i64) {
+    let l = rows::limits_of(band);
+    say(b"limits");
+    signed(band);
+    signed(l.low);
+    signed(l.high);
+    say(b"\n");
+}
+
+fn southern_limits() {
+    limits(-11);
+    limits(-10);
+    limits(-9);
+    limits(-8);
+    limits(-7);
+    limits(-6);
+    limits(-5);
+    limits(-4);
+    limits(-3);
+    limits(-2);
+    limits(-1);
+}
+
+fn northern_limits() {
+    limits(0);
+    limits(1);
+    limits(2);
+    limits(3);
+    limits(4);
+    limits(5);
+    limits(6);
+    limits(7);
+    limits(8);
+    limits(9);
+    limits(10);
+}
+
+// The letters of a set in their order.
+fn spell(set: LetterSet) {
+    let mut k = 0;
+    while k < 24 {
+        let letter = letters::letter_at(set, k);
+        if letter != 0 {
+            say(&[letter]);
+        }
+        k += 1;
+    }
+}
+
+// Whether a byte is found in a set, at a place that holds it.
+fn is_found(set: LetterSet, byte: u8) -> bool {
+    match letters::place_of(set, byte) {
+        Place::At(k) => letters::letter_at(set, k) == byte,
+        Place::NotInSet => false,
+    }
+}
+
+// How many of all bytes are found in a set.
+fn found_in(set: LetterSet) -> u64 {
+    let mut n: u64 = 0;
+    let mut byte: u8 = 0;
+    while byte < 255 {
+        if is_found(set, byte) {
+            n += 1;
+        }
+        byte += 1;
+    }
+    if is_found(set, 255) {
+        n += 1;
+    }
+    n
+}
+
+fn letter_set(set: LetterSet) {
+    say(b"set ");
+    spell(set);
+    number(found_in(set));
+    number(letters::first_tile(set) as u64);
+    say(b"\n");
+}
+
+fn utm_sets() {
+    letter_set(letters::bands_of(18));
+    letter_set(letters::columns_of(1, b'T'));
+    letter_set(letters::columns_of(2, b'T'));
+    letter_set(letters::columns_of(3, b'T'));
+    letter_set(letters::columns_of(60, b'T'));
+    letter_set(letters::rows_of(18, true));
+    letter_set(letters::bands_of(61));
+    letter_set(letters::columns_of(-1, b'A'));
+}
+
+fn ups_sets() {
+    letter_set(letters::bands_of(0));
+    letter_set(letters::columns_of(0, b'A'));
+    letter_set(letters::columns_of(0, b'B'));
+    letter_set(letters::columns_of(0, b'Y'));
+    letter_set(letters::columns_of(0, b'Z'));
+    letter_set(letters::columns_of(0, b'C'));
+    letter_set(letters::rows_of(0, false));
+    letter_set(letters::rows_of(0, true));
+}
+
+// The place of a letter, for the rows below: 99 for none.
+fn place(set: LetterSet, letter: u8) -> usize {
+    match letters::place_of(set, letters::capital(letter)) {
+        Place::At(k) => k,
+        Place::NotInSet => 99,
+    }
+}
+
+fn answer(a: RowAnswer) {
+    match a {
+        RowAnswer::Row(found) => signed(found.row),
+        RowAnswer::Nothing => say(b" none"),
+    }
+    say(b"\n");
+}
+
+// The band of a letter's place, -10 to 9.
+fn band_at(k: usize) -> i64
+    requires { ⌜ k < 20 ⌝ }
+{
+    k as i64 - 10
+}
+
+// The row of a 100 km square, or that there is none.
+fn square(zone: i64, band: u8, column: u8, row: u8) {
+    say(b"row");
+    signed(zone);
+    say(&[band, column, row]);
+    let b = place(letters::bands_of(zone), band);
+    let c = place(letters::columns_of(zone, band), column);
+    let r = place(letters::rows_of(zone, true), row);
+    if 20 <= b {
+        say(b" no band\n");
+        return;
+    }
+    answer(rows::utm_row_at(rows::shift_of(zone), band_at(b), c, r));
+}
+
+fn northern_squares() {
+    square(31, b'W', b'C', b'L');
+    square(31, b'W', b'B', b'L');
+    square(31, b'W', b'F', b'L');
+    square(31, b'W', b'G', b'L');
+    square(31, b'V', b'C', b'M');
+    square(31, b'V', b'D', b'M');
+    square(31, b'X', b'B', b'V');
+    square(31, b'X', b'A', b'V');
+    square(31, b'W', b'B', b'A');
+    square(31, b'W', b'C', b'A');
+    square(31, b'W', b'C', b'K');
+}
+
+fn southern_squares() {
+    square(31, b'D', b'C', b'K');
+    square(31, b'D', b'B', b'K');
+    square(31, b'D', b'F', b'K');
+    square(31, b'D', b'G', b'K');
+    square(31, b'E', b'C', b'J');
+    square(31, b'E', b'D', b'J');
+    square(31, b'C', b'B', b'A');
+    square(31, b'C', b'A', b'A');
+    square(31, b'D', b'B', b'V');
+    square(31, b'D', b'C', b'V');
+}
+
+fn other_squares() {
+    square(18, b'T', b'W', b'L');
+    square(18, b'T', b'W', b'A');
+    square(4, b'q', b'f', b'j');
+    square(27, b'U', b'X', b'Q');
+    square(18, b'N', b'W', b'F');
+    square(18, b'M', b'W', b'E');
+    square(18, b'T', b'A', b'L');
+    square(18, b'T', b'W', b'W');
+    square(18, b'I', b'W', b'L');
+}
+
+fn band(latitude: i64) {
+    say(b"band");
+    signed(latitude);
+    signed(zones::to_latitude_band(latitude));
+    say(b"\n");
+}
+
+fn bands() {
+    band(0);
+    band(-1);
+    band(7_999_999_999);
+    band(8_000_000_000);
+    band(71_999_999_999);
+    band(72_000_000_000);
+    band(84_000_000_000);
+    band(-72_000_000_000);
+    band(-72_000_000_001);
+    band(-80_000_000_000);
+    band(9_223_372_036_854_775_807);
+    band(-9_223_372_036_854_775_807 - 1);
+}
+
+fn zone(latitude: i64, longitude: i64) {
+    say(b"zone");
+    signed(latitude);
+    signed(longitude);
+    match zones::standard_zone(latitude, longitude) {
+        ZoneAnswer::Zone(z) => signed(z),
+        ZoneAnswer::Refused(n) => {
+            say(b" R");
+            number(n);
+        }
+    }
+    say(b"\n");
+}
+
+fn norway() {
+    zone(60_000_000_000, 3_000_000_000);
+    zone(60_000_000_000, 2_999_999_999);
+    zone(55_999_999_999, 3_000_000_000);
+    zone(56_000_000_000, 5_999_999_999);
+    zone(63_999_999_999, 3_000_000_000);
+    zone(64_000_000_000, 3_000_000_000);
+    zone(60_000_000_000, 363_000_000_000);
+}
+
+fn svalbard() {
+    zone(72_000_000_000, 8_999_999_999);
+    zone(72_000_000_000, 9_000_000_000);
+    zone(72_000_000_000, 20_999_999_999);
+    zone(72_000_000_000, 21_000_000_000);
+    zone(72_000_000_000, 33_000_000_000);
+    zone(72_000_000_000, 41_999_999_999);
+    zone(72_000_000_000, 42_000_000_000);
+    zone(72_000_000_000, -1);
+    zone(71_999_999_999, 9_000_000_000);
+}
+
+fn zone_ends() {
+    zone(84_000_000_000, 0);
+    zone(83_999_999_999, 0);
+    zone(-80_000_000_000, 0);
+    zone(-80_000_000_001, 0);
+    zone(90_000_000_000, 0);
+    zone(90_000_000_001, 0);
+    zone(-90_000_000_000, 0);
+    zone(-90_000_000_001, 0);
+    zone(0, 180_000_000_000);
+    zone(0, 179_999_999_999);
+    zone(0, -180_000_000_000);
+    zone(0, 9_223_372_036_854_775_807);
+}
+
+// The MGRS range test: the point after the edge rules, or the refusal.
+fn moved(zone: i64, north: bool, easting: i64, northing: i64) {
+    say(b"mgrs");
+    signed(zone);
+    hemisphere(north);
+    signed(easting);
+    signed(northing);
+    match position::mgrs_check_coords(zone, north, easting, northing) {
+        MgrsCheck::Moved(q) => {
+            say(b" :");
+            hemisphere(q.north);
+            signed(q.easting);
+            signed(q.northing);
+        }
+        MgrsCheck::Refused(n) => {
+            say(b" R");
+            number(n);
+        }
+    }
+    say(b"\n");
+}
+
+fn utm_edges() {
+    moved(18, true, 1_800_000_000_000, 9_000_000_000_000);
+    moved(18, false, 1_000_000_000_000, 20_000_000_000_000);
+    moved(18, true, 1_000_000_000_000, 0);
+    moved(18, true, 1_000_000_000_000, -1);
+    moved(18, false, 1_000_000_000_000, 20_000_000_000_001);
+    moved(18, false, 1_000_000_000_000, 39_000_000_000_000);
+    moved(18, true, 200_000_000_000, -18_000_000_000_000);
+    moved(18, false, 200_000_000_000, 2_000_000_000_000);
+    moved(18, true, 1_799_999_999_999, 19_000_000_000_000);
+}
+
+fn utm_refusals() {
+    moved(-1, true, 1_000_000_000_000, 0);
+    moved(61, true, 0, 0);
+    moved(18, true, 199_999_999_999, 0);
+    moved(18, true, 1_800_000_000_001, 0);
+    moved(18, true, 0, -18_000_000_000_001);
+    moved(18, true, 1_000_000_000_000, -18_000_000_000_001);
+    moved(18, true, 1_000_000_000_000, 19_000_000_000_001);
+    moved(18, false, 1_000_000_000_000, 1_999_999_999_999);
+    moved(18, false, 1_000_000_000_000, 39_000_000_000_001);
+}
+
+fn ups_edges() {
+    moved(0, false, 6_400_000_000_000, 6_400_000_000_000);
+    moved(0, false, 1_600_000_000_000, 1_600_000_000_000);
+    moved(0, false, 1_599_999_999_999, 1_600_000_000_000);
+    moved(0, false, 1_600_000_000_000, 6_400_000_000_001);
+    moved(0, true, 5_400_000_000_000, 5_400_000_000_000);
+    moved(0, true, 2_600_000_000_000, 2_600_000_000_000);
+    moved(0, true, 2_599_999_999_999, 2_600_000_000_000);
+    moved(0, true, 2_600_000_000_000, 5_400_000_000_001);
+}
+
+// The UTM range test.
+fn ranged(zone: i64, north: bool, easting: i64, northing: i64) {
+    say(b"utm");
+    signed(zone);
+    hemisphere(north);
+    signed(easting);
+    signed(northing);
+    match position::utm_check_coords(zone, north, easting, northing) {
+        UtmCheck::InRange => say(b" in"),
+        UtmCheck::Refused(n) => {
+            say(b" R");
+            number(n);
+        }
+    }
+    say(b"\n");
+}
+
+fn utm_ranges() {
+    ranged(18, true, 0, -18_200_000_000_000);
+    ranged(18, true, -1, 0);
+    ranged(18, true, 2_000_000_000_000, 19_200_000_000_000);
+    ranged(18, true, 2_000_000_000_001, 0);
+    ranged(18, true, 0, -18_200_000_000_001);
+    ranged(18, true, 0, 19_200_000_000_001);
+    ranged(18, false, 0, 39_200_000_000_000);
+    ranged(18, false, 0, 1_799_999_999_999);
+    ranged(0, true, 2_400_000_000_000, 5_600_000_000_000);
+    ranged(0, false, 1_399_999_999_999, 1_400_000_000_000);
+    ranged(61, true, 0, 0);
+}
+
+// The centre on one axis, its corner and the side.
+fn axis(p: i64, tile: u8, digits: u64) {
+    let centre = position::centre_of(p, tile, digits);
+    say(b"axis");
+    signed(p);
+    number(tile as u64);
+    number(digits);
+    signed(centre);
+    signed(position::corner_of(p, centre));
+    number(position::side_length(p));
+    say(b"\n");
+}
+
+fn axes() {
+    axis(6, 5, 856_641);
+    axis(6, 45, 113_154);
+    axis(5, 6, 3_145);
+    axis(5, 54, 12_982);
+    axis(5, 17, 61_434);
+    axis(5, 23, 81_146);
+    axis(0, 6, 0);
+    axis(11, 1, 99_999_999_999);
+    axis(11, 1, 100_000_000_000);
+    axis(1, 255, 9);
+    axis(-1, 5, 0);
+    axis(12, 5, 0);
+}
+
+// Whether the metres of two counts are these two, to the last bit.
+fn metres(easting: i64, northing: i64, x: f64, y: f64) {
+    say(b"metres");
+    signed(easting);
+    signed(northing);
+    match position::metres_of(easting, northing) {
+        MetresAnswer::Exact(m) => {
+            if m.easting == x {
+                if m.northing == y {
+                    say(b" equal");
+                }
+            }
+        }
+        MetresAnswer::TooLarge => say(b" too large"),
+    }
+    say(b"\n");
+}
+
+fn metre_examples() {
+    metres(
+        1_171_328_300_000,
+        9_022_630_900_000,
+        585_664.15,
+        4_511_315.45,
+    );
+    metres(
+        1_206_291_000_000,
+        10_825_965_000_000,
+        603_145.5,
+        5_412_982.5,
+    );
+    metres(
+        3_522_869_000_000,
+        4_762_293_000_000,
+        1_761_434.5,
+        2_381_146.5,
+    );
+    metres(1_300_000_000_000, 4_700_000_000_000, 650_000.0, 2_350_000.0);
+    metres(800_000_000_000, 13_400_000_000_000, 400_000.0, 6_700_000.0);
+    metres(1_000_000_000_000, 9_800_000_000_000, 500_000.0, 4_900_000.0);
+    metres(
+        9_007_199_254_740_991,
+        -9_007_199_254_740_992,
+        4_503_599_627.370_495_5,
+        -4_503_599_627.370_496,
+    );
+    metres(9_007_199_254_740_992, 0, 0.0, 0.0);
+    metres(0, -9_007_199_254_740_993, 0.0, 0.0);
+}
+
+fn main() {
+    southern_limits();
+    northern_limits();
+    utm_sets();
+    ups_sets();
+    northern_squares();
+    southern_squares();
+    other_squares();
+    bands();
+    norway();
+    svalbard();
+    zone_ends();
+    utm_edges();
+    utm_refusals();
+    ups_edges();
+    utm_ranges();
+    axes();
+    metre_examples();
+}
