@@ -2,13 +2,14 @@
 -- So place and letter undo each other. Assumes nothing.
 use mathlib.Core.Path.{_≡_, refl, ap, sym, _∙_}
 use mathlib.Core.Bool.{Bool, true, false, cond, _&&_}
+use mathlib.Core.Logic.{_↔_}
 use mathlib.Core.List.{List, [], _∷_}
-use Prim.Native.Nat.{ℕ, zero, suc, _+_, _<_, _≤_}
+use Prim.Native.Nat.{ℕ, suc, _+_, _<_, _≤_}
 use native.Mathlib.Omega.{arith}
-use native.Mathlib.Nat.{lt-of-lt-of-le, le-trans}
+use native.Mathlib.Nat.{le-trans}
 use mir.Facts.{and-yes}
 use borrow.Author.Tests.{eqb-true, ne-eqb}
-use lib.Dec.{T, eqb, leb, ltb, lit≤, leb→le, ltb→lt, lt→ltb, eqb→eq}
+use lib.Dec.{T, eqb, leb, leb→le, eqb→eq}
 use lib.ListN.{length, getD, List·getD-eq-default}
 use Rattle.whole.proofs.Table.{all, each, every, every-head, every-tail}
 use Rattle.letters.specs.declared.LetterSet.{LetterSet}
@@ -71,12 +72,14 @@ letter-found set k h =
     isAt→eq (placeOf set (letterAt set k)) k
     (each (sizeOf set) (found set) (for-all (λ set. all (sizeOf set) (found set)) all-found set) k h)
 
+-- in one: a letter is found at a place exactly if that place is one of the set and holds it
+pub placed-exactly : (set : LetterSet) (b k : ℕ) → (placeOf set b ≡ At k) ↔ ((k < sizeOf set) × (letterAt set k ≡ b))
+placed-exactly set b k =
+    (λ e. (place-below set b k e, place-holds set b k e), λ h. ap (placeOf set) (sym (h .1)) ∙ letter-found set k (h .0))
+
 -- a set has at most 24 letters
 pub size-le : (set : LetterSet) → sizeOf set ≤ 24
 size-le set = leb→le (sizeOf set) 24 (for-all (λ set. leb (sizeOf set) 24) tt set)
-
-pub place-lt : (set : LetterSet) (b k : ℕ) → placeOf set b ≡ At k → k < 24
-place-lt set b k e = lt-of-lt-of-le (place-below set b k e) (size-le set)
 
 pub past-end : (set : LetterSet) (k : ℕ) → 24 ≤ k → letterAt set k ≡ 0
 unfolding letterAt

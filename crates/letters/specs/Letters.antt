@@ -1,8 +1,9 @@
 -- The letters of document 01, "Letters (source document 000)". Assumes nothing.
-use mathlib.Core.Bool.{Bool, true, false, cond, _&&_, _||_}
+use mathlib.Core.Bool.{cond}
 use mathlib.Core.List.{List, [], _∷_}
 use Prim.Native.Nat.{ℕ, suc, _-_}
-use lib.Dec.{eqb, leb, ltb}
+use Prim.Native.Char.{code}
+use lib.Dec.{eqb, ltb}
 use lib.ListN.{getD}
 use Rattle.whole.specs.Text.{bytes}
 use Rattle.letters.specs.declared.LetterSet.{LetterSet}
@@ -10,9 +11,9 @@ use Rattle.letters.specs.declared.LetterSet.the-variants.{NoLetters, Utm
 use Rattle.letters.specs.declared.Place.{Place}
 use Rattle.letters.specs.declared.Place.the-variants.{At, NotInSet}
 
--- "a-z count as A-Z": 97 to 122 are a to z, and a capital stands 32 lower.
+-- "a-z count as A-Z": a capital stands 32 below its small letter.
 unfoldable pub capitalOf : ℕ → ℕ
-capitalOf b = cond (ltb b 97) b (cond (ltb 122 b) b (b - 32))
+capitalOf b = cond (ltb b (code "a")) b (cond (ltb (code "z") b) b (b - 32))
 
 -- The sets, letter for letter. A zone or a UPS band that does not exist has no letters.
 abbrev pub lettersOf : LetterSet → List ℕ

@@ -1,6 +1,7 @@
 -- Which set of letters a zone, a band and a hemisphere use: document 01, "Letters". Assumes nothing.
-use mathlib.Core.Bool.{Bool, true, false, cond}
+use mathlib.Core.Bool.{Bool, true, cond}
 use Prim.Native.Nat.{ℕ}
+use Prim.Native.Char.{code}
 use lib.Dec.{eqb, leb}
 use lib.IntN.{ℤ, pos, _-ℤ_}
 use lib.Signed.{ltZ}
@@ -27,11 +28,11 @@ bandsOf zone = byGrid (gridOf zone) UtmBands UpsBands NoLetters
 unfoldable pub utmColumns : ℕ → LetterSet
 utmColumns m = cond (eqb m 0) UtmColumns0 (cond (eqb m 1) UtmColumns1 UtmColumns2)
 
--- "UPS columns: A ..; B ..; Y ..; Z ..": 65, 66, 89, 90.
+-- "UPS columns: A ..; B ..; Y ..; Z .."
 unfoldable pub upsColumns : ℕ → LetterSet
 upsColumns b =
-    cond (eqb b 65) UpsColumnsA
-    (cond (eqb b 66) UpsColumnsB (cond (eqb b 89) UpsColumnsY (cond (eqb b 90) UpsColumnsZ NoLetters)))
+    cond (eqb b (code "A")) UpsColumnsA
+    (cond (eqb b (code "B")) UpsColumnsB (cond (eqb b (code "Y")) UpsColumnsY (cond (eqb b (code "Z")) UpsColumnsZ NoLetters)))
 
 unfoldable pub columnsOf : ℤ → ℕ → LetterSet
 columnsOf zone b = byGrid (gridOf zone) (utmColumns (floorMod (zone -ℤ pos 1) 3)) (upsColumns b) NoLetters
@@ -40,10 +41,10 @@ columnsOf zone b = byGrid (gridOf zone) (utmColumns (floorMod (zone -ℤ pos 1) 
 unfoldable pub rowsOf : ℤ → Bool → LetterSet
 rowsOf zone north = byGrid (gridOf zone) UtmRows (cond north UpsRowsNorth UpsRowsSouth) NoLetters
 
--- "north from N"; "A, B south; Y, Z north": the letters from N, which is 78.
+-- "north from N"; "A, B south; Y, Z north": the letters from N.
 abbrev pub northBand : ℕ → Bool
-northBand b = leb 78 b
+northBand b = leb (code "N") b
 
--- "B and Z east": 66 and 90.
+-- "B and Z east"
 unfoldable pub eastBand : ℕ → Bool
-eastBand b = cond (eqb b 66) true (eqb b 90)
+eastBand b = cond (eqb b (code "B")) true (eqb b (code "Z"))

@@ -1,5 +1,6 @@
 -- How the program's own tables are laid out. No public answer speaks of this. Assumes nothing.
 use Prim.Native.Nat.{ℕ, _+_}
+use Prim.Native.Char.{code}
 use Rattle.letters.specs.declared.Place.{Place}
 use Rattle.letters.specs.declared.Place.the-variants.{At, NotInSet}
 use Rattle.letters.specs.declared.LetterSet.{LetterSet}
@@ -21,7 +22,11 @@ numberOf UpsColumnsZ = 10
 numberOf UpsRowsSouth = 11
 numberOf UpsRowsNorth = 12
 
--- A place as a byte of the table: a for 0, which is 97, b for 1 and so on, a dot, which is 46, for none.
+-- The alphabet, A for 0.
+abbrev pub alphabet : ℕ → ℕ
+alphabet i = code "A" + i
+
+-- A place as a byte of the table: a for 0, b for 1 and so on, a dot for none.
 abbrev pub codeOf : Place → ℕ
-codeOf (At k) = 97 + k
-codeOf NotInSet = 46
+codeOf (At k) = code "a" + k
+codeOf NotInSet = code "."

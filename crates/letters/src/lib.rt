@@ -2,8 +2,8 @@
 ghost use mathlib.Core.Path.{_≡_};
 ghost use Rattle.letters.specs.Letters.{capitalOf, placeOf, letterAt, firstTile};
 ghost use Rattle.letters.specs.Sets.{gridOf, bandsOf, utmColumns, upsColumns, columnsOf, rowsOf, northBand, eastBand};
-ghost use Rattle.letters.specs.Tables.{numberOf, codeOf};
-ghost use Prim.Native.Nat.{_+_, _<_};
+ghost use Rattle.letters.specs.Tables.{numberOf, alphabet, codeOf};
+ghost use Prim.Native.Nat.{_<_};
 
 // The twelve sets, and one for zones and bands that do not exist.
 pub enum LetterSet {
@@ -102,7 +102,7 @@ fn number_of(set: LetterSet) -> usize
 // What the table holds of the letter that stands `index` letters after A.
 fn coded_place(set: LetterSet, index: usize) -> u8
     requires { ⌜ index < 26 ⌝ }
-    ensures { λ r. ⌜ r ≡ codeOf (placeOf set (65 + index)) ⌝ }
+    ensures { λ r. ⌜ r ≡ codeOf (placeOf set (alphabet index)) ⌝ }
 {
     let line = number_of(set);
     PLACES[line][index]

@@ -1,15 +1,15 @@
 -- The ranges' ends are small, so that moving them by a tile fits, and their upper ends are not negative: computed for the four kinds.
 -- Assumes nothing.
-use mathlib.Core.Path.{_≡_, refl, sym, ap, _∙_, subst}
+use mathlib.Core.Path.{_≡_}
 use mathlib.Core.Bool.{Bool, true, false, _&&_}
-use Prim.Native.Nat.{ℕ, _+_, _≤_}
+use Prim.Native.Nat.{_+_, _≤_}
 use native.Mathlib.Omega.{arith}
 use lib.Dec.{T, lit≤}
 use lib.IntN.{ℤ, pos, negsuc, _+ℤ_, _-ℤ_}
 use lib.Signed.{leZ, _≤ℤ_}
 use mir.Syntax.{w64}
-use mir.Val.{SFits, toZ, ofZ}
-use mir.Facts.{toZ-ofZ, and-yes}
+use mir.Val.{SFits}
+use mir.Facts.{and-yes}
 use Rattle.whole.proofs.Parts.{up, dn, T-true, le-yes, add-parts, sub-parts, ≤ℤ-parts}
 use Rattle.whole.proofs.Signed.{fits-in}
 use Rattle.position.specs.declared.Ends.{Ends}

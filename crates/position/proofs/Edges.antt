@@ -1,5 +1,5 @@
 -- What a point in range is after its upper ends are lowered. Assumes nothing.
-use mathlib.Core.Path.{_≡_, refl, sym, ap, _∙_, subst}
+use mathlib.Core.Path.{_≡_, refl, sym, _∙_, subst}
 use mathlib.Core.Bool.{Bool, true, false, cond}
 use Prim.Native.Nat.{ℕ, _+_, _≤_}
 use native.Mathlib.Omega.{arith}
@@ -12,11 +12,10 @@ use Rattle.whole.specs.Compare.{same}
 use Rattle.whole.proofs.Parts.{up, dn, lt-no, add-parts, sub-parts, le-true, ≤ℤ-parts}
 use Rattle.whole.proofs.Signed.{fits-in, same→eq}
 use Rattle.position.specs.declared.Ends.{Ends}
-use Rattle.position.specs.declared.OutAxis.{OutAxis}
 use Rattle.position.specs.declared.OutAxis.the-variants.{Neither, Easting, Northing}
-use Rattle.position.specs.Ranges.{tiles, eastings, northings, moved, outOf, outAxis}
+use Rattle.position.specs.Ranges.{eastings, northings, moved, outOf, outAxis}
 use Rattle.position.specs.Edges.{lowered}
-use Rattle.position.proofs.Bounds.{Bounded, north-bounded}
+use Rattle.position.proofs.Bounds.{north-bounded}
 
 -- not out of the ends moved by nothing: between the two
 pub record Between (ends : Ends) (x : ℤ) : Type 0 where

@@ -1,17 +1,15 @@
 -- Corner, centre and side of a square, once over p. Assumes nothing.
 use mathlib.Core.Path.{_≡_, refl, sym, ap, _∙_, subst}
 use mathlib.Core.Bool.{Bool, true, false, cond, _&&_}
-use Prim.Native.Nat.{ℕ, zero, suc, _+_, _-_, _*_, _/_, _^_, _≤_, _<_}
-use native.Mathlib.Nat.{add-mul, mul-assoc, mul-comm, one-mul, mul-lt-mul-of-pos-right, mul-le-mul-right, div-eq-of-lt-le, div-lt-iff-lt-mul, le-div-iff-mul-le}
+use Prim.Native.Nat.{ℕ, _+_, _-_, _*_, _/_, _^_, _≤_, _<_}
+use native.Mathlib.Nat.{add-mul, mul-assoc, mul-comm, one-mul, mul-lt-mul-of-pos-right, div-eq-of-lt-le, div-lt-iff-lt-mul, le-div-iff-mul-le}
 use native.Mathlib.Omega.{arith}
 use borrow.Author.Tests.{lt-ltb, le-ltb, le-leb, ltb-true, ltb-false, leb-true, eq-eqb, ne-eqb}
 use lib.Dec.{T, ltb, leb, eqb}
-use lib.IntN.{ℤ, pos, negsuc, _+ℤ_, _-ℤ_}
-use lib.Signed.{ltZ, leZ}
-use mir.Syntax.{w64}
-use mir.Val.{SFits}
+use lib.IntN.{ℤ, pos, negsuc}
+use lib.Signed.{ltZ}
 use mir.Facts.{and-yes}
-use Rattle.whole.proofs.Parts.{up, dn, T-true, eq-by, lt-yes, lt-no, le-yes, lt-true, lt-false, le-true, add-parts, sub-parts}
+use Rattle.whole.proofs.Parts.{up, dn, T-true, eq-by, lt-yes, lt-no, sub-parts}
 use Rattle.whole.proofs.Powers.{ten-pos, ten-split, ten-le}
 use Rattle.position.specs.Squares.{halfOf, sideLength, numberOf, centre, centreOf, cornerOf, holds}
 

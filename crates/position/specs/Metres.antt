@@ -1,10 +1,9 @@
 -- Metres of a count of units: document 01, "Each metre value is the unit count as f64 divided by 2,000,000.0, rounded once."
 -- Assumes nothing.
-use mathlib.Core.Bool.{Bool, true, false, cond}
+use mathlib.Core.Bool.{Bool, false, cond}
 use lib.IntN.{ℤ, pos, negsuc}
 use lib.Signed.{ltZ}
 use lib.Ieee.{Float, binary64, div, ofInt}
-use Rattle.position.specs.declared.Metres.{Metres}
 use Rattle.position.specs.declared.MetresAnswer.{MetresAnswer}
 use Rattle.position.specs.declared.MetresAnswer.the-variants.{Exact, TooLarge}
 

@@ -2,7 +2,6 @@
 use letters::Grid;
 ghost use mathlib.Core.Path.{_≡_};
 ghost use Prim.Native.Nat.{_<_, _^_};
-ghost use mathlib.Core.Bool.{Bool, false};
 ghost use lib.IntN.{pos, negsuc};
 ghost use mir.Syntax.{w64};
 ghost use mir.Val.{SFits};
@@ -154,7 +153,7 @@ fn lowered_of(x: i64, ends: Ends) -> i64
 
 // The hemisphere that a UTM northing lies in.
 fn side_of(north: bool, easting: i64, northing: i64) -> Point
-    requires { ⌜ (negsuc 17999999999999 ≤ℤ northing) × (northing ≤ℤ pos 39000000000000) ⌝ }
+    requires { ⌜ (tiles (negsuc 89) ≤ℤ northing) × (northing ≤ℤ tiles (pos 195)) ⌝ }
     ensures { λ r. ⌜ r ≡ sideOf north easting northing ⌝ }
 {
     if north {

@@ -1,6 +1,6 @@
 -- The limits' fields as they are read back from their bits. Assumes nothing.
 use mathlib.Core.Path.{_≡_, ap, _∙_}
-use Prim.Native.Nat.{ℕ, _+_, _≤_, _<_}
+use Prim.Native.Nat.{ℕ, _<_}
 use native.Mathlib.Omega.{arith}
 use lib.Dec.{lit≤}
 use lib.IntN.{ℤ, pos, _-ℤ_}
@@ -12,8 +12,8 @@ use Rattle.whole.proofs.Signed.{fits-in}
 use Rattle.rows.specs.declared.Limits.{Limits}
 use Rattle.rows.specs.Limits.{limitsOf, lowest, highest}
 use Rattle.rows.specs.Direct.{base, candidate}
-use Rattle.rows.proofs.Near.{Ranged, limits-ranged}
-use Rattle.rows.proofs.Period.{Candidate, candidate-is}
+use Rattle.rows.proofs.Near.{limits-ranged}
+use Rattle.rows.proofs.Period.{candidate-is}
 
 module _ (b : ℤ) where
   pub low-fits : SFits w64 (lowest b)

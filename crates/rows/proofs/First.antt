@@ -3,7 +3,7 @@ use mathlib.Core.Path.{_≡_, refl, ap, sym, _∙_}
 use mathlib.Core.Bool.{Bool, true, false, cond}
 use Prim.Native.Nat.{ℕ, zero, suc, _+_, _≤_, _<_}
 use native.Mathlib.Omega.{arith}
-use lib.IntN.{ℤ, pos, sucℤ}
+use lib.IntN.{ℤ, sucℤ}
 use Rattle.whole.proofs.Parts.{up, dn, eq-by, suc-parts}
 use Rattle.rows.specs.declared.FoundRow.{FoundRow}
 use Rattle.rows.specs.declared.RowAnswer.{RowAnswer}

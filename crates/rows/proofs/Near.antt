@@ -1,10 +1,9 @@
 -- Where the allowed rows lie: among the twenty from one below the lowest, in -90 to 94, on the band's side of the equator.
 -- What concerns the limits is computed once over the ten pairs and their mirrors. Assumes nothing.
-use mathlib.Core.Path.{_≡_, refl, sym, ap, subst}
-use mathlib.Core.Bool.{Bool, true, false, cond, _&&_, _||_}
-use mathlib.Core.Logic.{_⊎_, inl, inr, ⊎-elim}
-use mathlib.Core.List.{List, [], _∷_}
-use Prim.Native.Nat.{ℕ, suc, _+_, _≤_, _<_}
+use mathlib.Core.Path.{_≡_, refl, sym, subst}
+use mathlib.Core.Bool.{Bool, true, false, _&&_, _||_}
+use mathlib.Core.Logic.{⊎-elim}
+use Prim.Native.Nat.{ℕ, _+_, _≤_}
 use native.Mathlib.Omega.{arith}
 use lib.Dec.{T, eqb, leb, ltb, eqb→eq}
 use borrow.Author.Tests.{ne-eqb, ltb-true, ltb-false}
@@ -12,11 +11,10 @@ use lib.IntN.{ℤ, pos, negsuc, _+ℤ_}
 use lib.ListN.{getD, List·getD-eq-default}
 use lib.Signed.{leZ}
 use mir.Facts.{and-yes, or-yes}
-use Rattle.whole.specs.Floor.{fold}
 use Rattle.whole.proofs.Parts.{up, dn, T-true, le-yes, add-parts}
 use Rattle.whole.proofs.Table.{all, each}
 use Rattle.rows.specs.declared.Limits.{Limits}
-use Rattle.rows.specs.Limits.{limitsOf, lowest, highest, northern, none, mirrored}
+use Rattle.rows.specs.Limits.{limitsOf, lowest, highest, northern, none}
 use Rattle.rows.specs.Allowed.{within, sameSign, case, folded, foldColumn, allowed}
 
 -- past the tenth band there are no limits

@@ -1,13 +1,14 @@
 -- Of the rows -90..94 at most one that is allowed for a band and column has a given letter; resolution answers it exactly
 -- if it exists; an allowed row has its band's sign. Over every shift of the letters. Assumes nothing.
-use mathlib.Core.Path.{_≡_, refl, ap, sym, _∙_, subst}
-use mathlib.Core.Bool.{Bool, true, false, cond, _&&_}
-use Prim.Native.Nat.{ℕ, _+_, _≤_, _<_}
+use mathlib.Core.Path.{_≡_, ap, sym, _∙_, subst}
+use mathlib.Core.Bool.{true, false}
+use mathlib.Core.Logic.{_↔_}
+use Prim.Native.Nat.{ℕ, _≤_, _<_}
 use native.Mathlib.Omega.{arith}
-use borrow.Author.Tests.{eqb-true, eq-eqb, ne-eqb}
+use borrow.Author.Tests.{eq-eqb}
 use lib.Dec.{T, eqb}
 use lib.IntN.{ℤ, pos, negsuc}
-use lib.Signed.{_≤ℤ_, leZ}
+use lib.Signed.{_≤ℤ_}
 use mir.Facts.{and-yes, eqb-yes}
 use Rattle.whole.proofs.Parts.{up, dn, T-true, le-true}
 use Rattle.rows.specs.declared.FoundRow.{FoundRow}
@@ -15,9 +16,9 @@ use Rattle.rows.specs.declared.RowAnswer.{RowAnswer}
 use Rattle.rows.specs.declared.RowAnswer.the-variants.{Row, Nothing}
 use Rattle.rows.specs.Allowed.{allowed, sameSign}
 use Rattle.rows.specs.Letters.{letterOf}
-use Rattle.rows.specs.Resolve.{firstRow, means, resolve}
+use Rattle.rows.specs.Resolve.{means, resolve}
 use Rattle.rows.specs.Direct.{candidate, unshifted}
-use Rattle.rows.proofs.Near.{Placed, allowed-placed}
+use Rattle.rows.proofs.Near.{allowed-placed}
 use Rattle.rows.proofs.Period.{letter-lt, same-row, same-test, candidate-is, is-candidate}
 use Rattle.rows.proofs.First.{first-same, first-none, first-sound, first-is}
 
@@ -74,6 +75,10 @@ module _ (b : ℤ) (c : ℕ) where
     answered x e =
         let t = from-means s b c l (x .row) (first-sound (means s b c l) (negsuc 89) 185 x e) in
         (t .1, t .0)
+
+    -- so a row is the answer exactly if it is allowed and has the letter
+    pub exactly : (r : ℤ) → (resolve s b c l ≡ at r) ↔ ((allowed b c r ≡ true) × (letterOf s r ≡ l))
+    exactly r = (answered (record { row = r }), λ h. found r (h .0) (h .1))
 
     -- no answer: no allowed row has the letter
     pub unanswered : resolve s b c l ≡ Nothing → (r : ℤ) → allowed b c r ≡ true → letterOf s r ≡ l → ⊥

@@ -1,7 +1,6 @@
 // The 100 km rows that a latitude band and a column allow, and the row that a row letter means.
 ghost use mathlib.Core.Path.{_≡_};
 ghost use Prim.Native.Nat.{_<_};
-ghost use Rattle.whole.specs.Floor.{floorMod};
 ghost use Rattle.rows.specs.Limits.{limitsOf};
 ghost use Rattle.rows.specs.Allowed.{foldColumn, sameSign, case, within, folded, allowed};
 ghost use Rattle.rows.specs.Letters.{shiftOf, letterOf};

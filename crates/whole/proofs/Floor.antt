@@ -1,13 +1,12 @@
 -- What rounding down means, and the parts of a quotient, for a divisor above 0. Assumes nothing.
-use mathlib.Core.Path.{_≡_, refl, sym, ap, _∙_}
-use mathlib.Core.Bool.{Bool, true, false, cond}
-use Prim.Native.Nat.{ℕ, zero, suc, _+_, _-_, _*_, _/_, _%_, _^_, _≤_, _<_}
-use native.Mathlib.Nat.{zero-div, suc-mul, add-div-right, div-eq-of-lt, mod-lt, div-add-mod', div-le-self, lt-of-le-of-lt, lt-trans}
+use mathlib.Core.Path.{_≡_, sym, ap}
+use mathlib.Core.Bool.{true, false}
+use Prim.Native.Nat.{ℕ, suc, _+_, _-_, _*_, _/_, _%_, _<_}
+use native.Mathlib.Nat.{zero-div, suc-mul, add-div-right, div-eq-of-lt, mod-lt, div-add-mod', div-le-self, lt-of-le-of-lt}
 use native.Mathlib.Omega.{arith}
 use borrow.Author.Tests.{eq-eqb, ne-eqb}
-use lib.Dec.{eqb, lit<}
 use lib.IntN.{ℤ, pos, negsuc, _+ℤ_, _*ℤ_}
-use lib.Signed.{mag, ltZ}
+use lib.Signed.{ltZ}
 use mir.Syntax.{Width}
 use mir.Val.{SFits}
 use Rattle.whole.specs.Floor.{fold, floorDiv, floorMod}

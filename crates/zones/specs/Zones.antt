@@ -1,7 +1,6 @@
 -- The band of a latitude and the zone of a latitude and a longitude: document 01, "Smaller services".
 -- "Latitude and longitude are signed 64-bit billionths of a degree." A number below 0, -(n + 1), is `negsuc n`. Assumes nothing.
 use mathlib.Core.Bool.{Bool, cond, _&&_}
-use Prim.Native.Nat.{ℕ}
 use lib.IntN.{ℤ, pos, negsuc, _+ℤ_, _-ℤ_, _*ℤ_}
 use lib.Signed.{ltZ, leZ}
 use Rattle.whole.specs.Floor.{floorDiv, floorMod}

@@ -2,7 +2,7 @@
 ghost use mathlib.Core.Path.{_≡_};
 ghost use lib.IntN.{pos, negsuc};
 ghost use lib.Signed.{_≤ℤ_};
-ghost use Rattle.zones.specs.Zones.{degrees, bandAt, bandOf, turned, plain, norway, arctic, svalbard, zoneAt, zoneOf};
+ghost use Rattle.zones.specs.Zones.{degrees, bandOf, turned, plain, norway, arctic, svalbard, zoneAt, zoneOf};
 
 fn degrees_of(billionths: i64) -> i64
     ensures { λ r. ⌜ r ≡ degrees billionths ⌝ }

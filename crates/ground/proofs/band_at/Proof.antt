@@ -2,7 +2,7 @@
 use borrow.Author.Needs.{needs}
 use mathlib.Core.Path.{_≡_}
 use native.Mathlib.Nat.{lt-trans}
-use Prim.Native.Nat.{ℕ, _<_, _^_}
+use Prim.Native.Nat.{_^_}
 use lib.Dec.{lit<, ltb}
 use lib.IntN.{pos, _-ℤ_}
 use lib.Signed.{mag}

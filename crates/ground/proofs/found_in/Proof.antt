@@ -5,9 +5,6 @@ use mathlib.Core.Logic.{⊎-elim}
 use native.Mathlib.Omega.{arith}
 use Rattle.ground.proofs.found_in.Statement.{statement}
 use Rattle.ground.proofs.found_in.Tie as tie
-use Rattle.ground.proofs.found_in.Reads as reads
-use Rattle.ground.proofs.found_in.Lts as lts
-use Rattle.ground.proofs.is_found.Reads as is-found-reads
 
 abbrev Inv-loop : tie.InvT-loop
 Inv-loop set n₀ byte₀ n byte = (n ≤ byte) × (byte ≤ 255)
@@ -15,43 +12,33 @@ Inv-loop set n₀ byte₀ n byte = (n ≤ byte) × (byte ≤ 255)
 abbrev μ-loop : tie.MeasureT-loop
 μ-loop set n₀ byte₀ n byte = 255 - byte
 
--- src/main.rt:100:5
 loop-holds : tie.Need-loop-holds Inv-loop μ-loop
 loop-holds c = search needs
 
--- src/main.rt:101:12
 is-found-requires : tie.Need-is-found-requires Inv-loop μ-loop
 is-found-requires c κs = search needs
 
--- src/main.rt:102:13
 add-n : tie.Need-add-n Inv-loop μ-loop
 add-n c = search needs
 
--- src/main.rt:104:9
 add-byte : tie.Need-add-byte Inv-loop μ-loop
 add-byte c = search needs
 
--- src/main.rt:100:5
 loop-less : tie.Need-loop-less Inv-loop μ-loop
 loop-less c = search needs
 
--- src/main.rt:100:5
 loop-again : tie.Need-loop-again Inv-loop μ-loop
 loop-again c = ⊎-elim (λ w. (omega arith, omega arith)) (λ w. (omega arith, omega arith)) (c .if1 .came)
 
--- src/main.rt:106:8
 is-found-requires-2 : tie.Need-is-found-requires-2 Inv-loop μ-loop
 is-found-requires-2 c κs = search needs
 
--- src/main.rt:107:9
 add-n-2 : tie.Need-add-n-2 Inv-loop μ-loop
 add-n-2 c = search needs
 
--- src/main.rt:97:1
 returns : tie.Need-returns Inv-loop μ-loop
 returns c = search needs
 
--- src/main.rt:97:1
 returns-2 : tie.Need-returns-2 Inv-loop μ-loop
 returns-2 c = search needs
 

@@ -3,10 +3,6 @@ use borrow.Author.Needs.{needs}
 use Prim.Native.Nat.{_≤_, _-_}
 use Rattle.ground.proofs.spell.Statement.{statement}
 use Rattle.ground.proofs.spell.Tie as tie
-use Rattle.ground.proofs.spell.Reads as reads
-use Rattle.ground.proofs.spell.Lts as lts
-use Rattle.ground.proofs.say.Reads as say-reads
-use Rattle.letters.proofs.letter_at.Reads as letter-at-reads
 
 abbrev Inv-loop : tie.InvT-loop
 Inv-loop set k₀ k = k ≤ 24
@@ -14,35 +10,27 @@ Inv-loop set k₀ k = k ≤ 24
 abbrev μ-loop : tie.MeasureT-loop
 μ-loop set k₀ k = 24 - k
 
--- src/main.rt:79:5
 loop-holds : tie.Need-loop-holds Inv-loop μ-loop
 loop-holds c = search needs
 
--- src/main.rt:80:13
 letter-at-requires : tie.Need-letter-at-requires Inv-loop μ-loop
 letter-at-requires c κs = search needs
 
--- src/main.rt:82:17
 slice-aggregate-say : tie.Need-slice-aggregate-say Inv-loop μ-loop
 slice-aggregate-say c = search needs
 
--- src/main.rt:82:13
 say-requires : tie.Need-say-requires Inv-loop μ-loop
 say-requires c κs = search needs
 
--- src/main.rt:84:9
 add-k : tie.Need-add-k Inv-loop μ-loop
 add-k c = search needs
 
--- src/main.rt:79:5
 loop-less : tie.Need-loop-less Inv-loop μ-loop
 loop-less c = search needs
 
--- src/main.rt:79:5
 loop-again : tie.Need-loop-again Inv-loop μ-loop
 loop-again c = search needs
 
--- src/main.rt:77:1
 returns : tie.Need-returns Inv-loop μ-loop
 returns c = search needs
 

@@ -1,8 +1,7 @@
 -- `letters::coded_place` meets its contract: the table is the list of the places, by computation.
 -- Assumes nothing.
-use mathlib.Core.Path.{_≡_, refl, sym, ap, _∙_}
-use Prim.Native.Nat.{ℕ, _+_, _-_, _*_, _<_, _≤_}
-use native.Mathlib.Omega.{arith}
+use mathlib.Core.Path.{refl, _∙_}
+use Prim.Native.Nat.{_+_, _<_}
 use borrow.Author.Needs.{needs}
 use Rattle.whole.proofs.Table.{row2}
 use Rattle.letters.specs.Letters.{placeOf, placeFrom}

@@ -3,7 +3,6 @@
 use mathlib.Core.Path.{_≡_, sym, _∙_}
 use mir.Facts.{toZ-ofZ}
 use borrow.Author.Needs.{needs}
-use Rattle.letters.specs.declared.Grid.{Grid}
 use Rattle.letters.specs.declared.Grid.the-variants.{Utm}
 use Rattle.letters.specs.Sets.{gridOf, columnsOf}
 use Rattle.letters.proofs.ZoneNumber.{less-fits}

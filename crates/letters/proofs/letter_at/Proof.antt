@@ -1,11 +1,10 @@
 -- `letters::letter_at` meets its contract: the table is the list of the sets, by computation.
 -- Assumes nothing.
-use mathlib.Core.Path.{_≡_, refl, sym, ap, _∙_}
-use Prim.Native.Nat.{ℕ, _+_, _-_, _*_, _<_, _≤_}
-use native.Mathlib.Omega.{arith}
+use mathlib.Core.Path.{refl, sym, _∙_}
+use Prim.Native.Nat.{_<_}
 use borrow.Author.Needs.{needs}
 use Rattle.whole.proofs.Table.{row2}
-use Rattle.letters.specs.Letters.{letterAt, lettersOf}
+use Rattle.letters.specs.Letters.{letterAt}
 use Rattle.letters.proofs.Sets.{setAt, number-lt, set-is}
 use Rattle.letters.proofs.Laws.{past-end}
 use Rattle.letters.proofs.letter_at.Statement.{statement}

@@ -1,20 +1,18 @@
 -- `position::centre_of` meets its contract: the tile and the digits apart make the centre.
 -- Assumes nothing.
-use mathlib.Core.Path.{_≡_, refl, sym, ap, _∙_}
-use mathlib.Core.Bool.{Bool, true, false}
+use mathlib.Core.Path.{_≡_, sym, ap, _∙_}
 use borrow.Author.Needs.{needs}
 use borrow.Author.Tests.{le-leb, lt-leb, le-ltb}
 use native.Mathlib.Nat.{lt-trans}
-use Prim.Native.Nat.{ℕ, suc, _+_, _-_, _*_, _^_, _≤_, _<_}
+use Prim.Native.Nat.{ℕ, _+_, _-_, _*_, _^_, _≤_, _<_}
 use native.Mathlib.Omega.{arith}
-use Rattle.whole.proofs.Signed.{cast-asks, cast-gives, back}
-use Rattle.whole.specs.Powers.{powerOfTen}
-use Rattle.whole.proofs.Powers.{ten-is, ten-le, ten-pos}
+use Rattle.whole.proofs.Signed.{cast-asks, cast-gives}
+use Rattle.whole.proofs.Powers.{ten-is, ten-le}
 use Rattle.position.specs.Squares.{numberOf, centre, centreOf}
 use Rattle.position.proofs.Squares.{Digits, digits, below, above, centre-split, in-tile}
-use lib.IntN.{ℤ, pos, negsuc, natAbs, _+ℤ_, _-ℤ_, _*ℤ_}
+use lib.IntN.{ℤ, pos, natAbs}
 use mir.Syntax.{w64}
-use mir.Val.{SFits, Fits, toZ, ofZ}
+use mir.Val.{toZ, ofZ}
 use mir.Facts.{toZ-ofZ, toZ-pos}
 use Rattle.position.proofs.centre_of.Statement.{statement}
 use Rattle.position.proofs.centre_of.Tie as tie

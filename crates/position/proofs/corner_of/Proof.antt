@@ -1,17 +1,16 @@
 -- `position::corner_of` meets its contract, by what `half_of` ensures.
 -- Assumes nothing.
-use mathlib.Core.Path.{_≡_, refl, sym, ap, _∙_}
-use mathlib.Core.Bool.{Bool, true, false}
+use mathlib.Core.Path.{_≡_}
+use mathlib.Core.Bool.{false}
 use borrow.Author.Needs.{needs}
-use Prim.Native.Nat.{ℕ, suc, _+_, _-_, _*_, _^_, _≤_, _<_}
 use native.Mathlib.Omega.{arith}
 use lib.Signed.{ltZ}
 use Rattle.whole.proofs.Parts.{up, dn, lt-no, sub-parts, sfits-by, sfits-up}
 use Rattle.position.specs.Squares.{halfOf, cornerOf}
 use Rattle.position.proofs.Squares.{half-le}
-use lib.IntN.{ℤ, pos, negsuc, natAbs, _+ℤ_, _-ℤ_, _*ℤ_}
+use lib.IntN.{ℤ, pos, _-ℤ_}
 use mir.Syntax.{w64}
-use mir.Val.{SFits, Fits, toZ, ofZ}
+use mir.Val.{SFits, toZ}
 use mir.Facts.{toZ-ofZ, toZ-pos}
 use Rattle.position.proofs.corner_of.Statement.{statement}
 use Rattle.position.proofs.corner_of.Tie as tie

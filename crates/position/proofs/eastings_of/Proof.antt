@@ -1,7 +1,6 @@
 -- `position::eastings_of` meets its contract.
 -- Assumes nothing.
 use borrow.Author.Needs.{needs}
-use Rattle.position.specs.Ranges.{eastings}
 use Rattle.position.proofs.eastings_of.Statement.{statement}
 use Rattle.position.proofs.eastings_of.Tie as tie
 

@@ -1,19 +1,19 @@
 -- `position::edge_of` meets its contract, by what `lowered_of` and `side_of` ensure.
 -- Assumes nothing.
-use mathlib.Core.Path.{_≡_, refl, sym, ap, subst, _∙_}
+use mathlib.Core.Path.{_≡_, sym, subst}
 use lib.Dec.{T}
 use mathlib.Core.Bool.{Bool, true, false}
 use borrow.Author.Needs.{needs}
 use lib.Signed.{_≤ℤ_}
 use Rattle.whole.proofs.Signed.{back}
 use Rattle.position.specs.Ranges.{eastings, northings}
-use Rattle.position.specs.Edges.{lowered, sideOf, edge}
-use Rattle.position.proofs.Bounds.{Bounded, east-bounded, north-bounded}
+use Rattle.position.specs.Edges.{lowered, edge}
+use Rattle.position.proofs.Bounds.{east-bounded, north-bounded}
 use Rattle.position.proofs.Edges.{Between, inside, lowered-wide}
-use lib.IntN.{ℤ, pos, negsuc, natAbs, _+ℤ_, _-ℤ_, _*ℤ_}
+use lib.IntN.{ℤ, pos, negsuc}
 use mir.Syntax.{w64}
-use mir.Val.{SFits, Fits, toZ, ofZ}
-use mir.Facts.{toZ-ofZ, toZ-pos}
+use mir.Val.{toZ, ofZ}
+use mir.Facts.{toZ-ofZ}
 use Rattle.position.proofs.edge_of.Statement.{statement}
 use Rattle.position.proofs.edge_of.Tie as tie
 

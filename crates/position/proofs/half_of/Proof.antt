@@ -1,19 +1,17 @@
 -- `position::half_of` meets its contract, by what `power_of_ten` ensures.
 -- Assumes nothing.
-use mathlib.Core.Path.{_≡_, refl, sym, ap, _∙_}
-use mathlib.Core.Bool.{Bool, true, false}
+use mathlib.Core.Path.{_≡_, sym, ap, _∙_}
 use borrow.Author.Needs.{needs}
-use Prim.Native.Nat.{ℕ, suc, _+_, _-_, _*_, _^_, _≤_, _<_}
+use Prim.Native.Nat.{_-_, _^_, _<_}
 use native.Mathlib.Omega.{arith}
-use Rattle.whole.proofs.Signed.{cast-asks, cast-gives, back}
-use Rattle.whole.specs.Powers.{powerOfTen}
-use Rattle.whole.proofs.Powers.{ten-is, ten-le, ten-pos}
+use Rattle.whole.proofs.Signed.{cast-asks, cast-gives}
+use Rattle.whole.proofs.Powers.{ten-is}
 use Rattle.position.specs.Squares.{halfOf}
 use Rattle.position.proofs.Squares.{Digits, digits, half-is, below, above}
-use lib.IntN.{ℤ, pos, negsuc, natAbs, _+ℤ_, _-ℤ_, _*ℤ_}
+use lib.IntN.{pos, natAbs}
 use mir.Syntax.{w64}
-use mir.Val.{SFits, Fits, toZ, ofZ}
-use mir.Facts.{toZ-ofZ, toZ-pos}
+use mir.Val.{toZ, ofZ}
+use mir.Facts.{toZ-ofZ}
 use Rattle.position.proofs.half_of.Statement.{statement}
 use Rattle.position.proofs.half_of.Tie as tie
 

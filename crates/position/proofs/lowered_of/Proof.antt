@@ -1,19 +1,16 @@
 -- `position::lowered_of` meets its contract: each return follows from the test on the way.
 -- Assumes nothing.
-use mathlib.Core.Path.{_≡_, refl, sym, ap, _∙_}
-use mathlib.Core.Bool.{Bool, true, false}
-use Prim.Native.Nat.{ℕ, suc, _+_, _-_, _*_, _^_, _≤_, _<_}
+use mathlib.Core.Path.{_≡_, ap}
 use native.Mathlib.Omega.{arith}
 use lib.Signed.{_≤ℤ_}
-use lib.Dec.{lit≤}
 use Rattle.whole.proofs.Parts.{up, dn, bits-eq, sub-parts, ≤ℤ-parts, sfits-up}
-use Rattle.whole.proofs.Signed.{fits-in, same-yes, same-no}
+use Rattle.whole.proofs.Signed.{same-yes, same-no}
 use Rattle.whole.proofs.Parts.{sfits-by}
 use Rattle.position.specs.Edges.{lowered}
-use lib.IntN.{ℤ, pos, negsuc, natAbs, _+ℤ_, _-ℤ_, _*ℤ_}
+use lib.IntN.{ℤ, pos, _-ℤ_}
 use mir.Syntax.{w64}
-use mir.Val.{SFits, Fits, toZ, ofZ}
-use mir.Facts.{toZ-ofZ, toZ-pos}
+use mir.Val.{SFits, ofZ}
+use mir.Facts.{toZ-ofZ}
 use Rattle.position.proofs.lowered_of.Statement.{statement}
 use Rattle.position.proofs.lowered_of.Tie as tie
 

@@ -1,18 +1,16 @@
 -- `position::metres_of` meets its contract, by what `is_exact` and `axis` ensure.
 -- Assumes nothing.
-use mathlib.Core.Path.{_≡_, refl, sym, ap, _∙_}
+use mathlib.Core.Path.{_≡_, refl, sym, _∙_}
 use mathlib.Core.Bool.{Bool, true, false}
 use borrow.Author.Needs.{needs}
-use Prim.Native.Nat.{ℕ, suc, _+_, _-_, _*_, _^_, _≤_, _<_}
+use Prim.Native.Nat.{ℕ, _^_, _<_}
 use native.Mathlib.Omega.{arith}
 use borrow.Author.Tests.{ltb-true, ltb-false}
 use lib.Signed.{mag, ltZ}
 use mathlib.Core.Bool.{cond}
-use Rattle.position.specs.Metres.{exact, metresOf, metresAt}
-use lib.IntN.{ℤ, pos, negsuc, natAbs, _+ℤ_, _-ℤ_, _*ℤ_}
-use mir.Syntax.{w64}
-use mir.Val.{SFits, Fits, toZ, ofZ}
-use mir.Facts.{toZ-ofZ, toZ-pos}
+use Rattle.position.specs.Metres.{exact, metresAt}
+use lib.IntN.{ℤ, pos, negsuc}
+use mir.Facts.{toZ-ofZ}
 use Rattle.position.proofs.metres_of.Statement.{statement}
 use Rattle.position.proofs.metres_of.Tie as tie
 

@@ -1,13 +1,10 @@
 -- `position::mgrs_check_coords` meets its contract, by what `grid_of` and `mgrs_inside` ensure.
 -- Assumes nothing.
-use mathlib.Core.Path.{_≡_, refl, sym, ap, _∙_}
+use mathlib.Core.Path.{_≡_, sym, _∙_}
 use borrow.Author.Needs.{needs}
 use Rattle.letters.specs.Sets.{gridOf}
 use Rattle.position.specs.Edges.{mgrsCheck}
-use lib.IntN.{ℤ, pos, negsuc, natAbs, _+ℤ_, _-ℤ_, _*ℤ_}
-use mir.Syntax.{w64}
-use mir.Val.{SFits, Fits, toZ, ofZ}
-use mir.Facts.{toZ-ofZ, toZ-pos}
+use mir.Facts.{toZ-ofZ}
 use Rattle.position.proofs.mgrs_check_coords.Statement.{statement}
 use Rattle.position.proofs.mgrs_check_coords.Tie as tie
 

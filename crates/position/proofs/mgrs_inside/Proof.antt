@@ -1,13 +1,11 @@
 -- `position::mgrs_inside` meets its contract, by what `out_axis` and `edge_of` ensure.
 -- Assumes nothing.
-use mathlib.Core.Path.{_≡_, refl, sym, ap, _∙_}
+use mathlib.Core.Path.{_≡_, sym, _∙_}
 use borrow.Author.Needs.{needs}
 use Rattle.position.specs.Ranges.{outAxis}
 use Rattle.position.specs.Edges.{mgrsInside}
-use lib.IntN.{ℤ, pos, negsuc, natAbs, _+ℤ_, _-ℤ_, _*ℤ_}
-use mir.Syntax.{w64}
-use mir.Val.{SFits, Fits, toZ, ofZ}
-use mir.Facts.{toZ-ofZ, toZ-pos}
+use lib.IntN.{pos}
+use mir.Facts.{toZ-ofZ}
 use Rattle.position.proofs.mgrs_inside.Statement.{statement}
 use Rattle.position.proofs.mgrs_inside.Tie as tie
 

@@ -1,8 +1,7 @@
 -- `position::northings_of` meets its contract.
 -- Assumes nothing.
 use borrow.Author.Needs.{needs}
-use mathlib.Core.Path.{_≡_, refl, sym, ap, _∙_}
-use Rattle.position.specs.Ranges.{northings}
+use mathlib.Core.Path.{_∙_}
 use Rattle.position.proofs.northings_of.Statement.{statement}
 use Rattle.position.proofs.northings_of.Tie as tie
 

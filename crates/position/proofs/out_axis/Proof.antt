@@ -1,14 +1,10 @@
 -- `position::out_axis` meets its contract, by what `is_out` ensures of each axis.
 -- Assumes nothing.
-use mathlib.Core.Path.{_≡_, refl, sym, ap, _∙_}
-use mathlib.Core.Bool.{Bool, true, false}
+use mathlib.Core.Path.{_≡_, sym, _∙_}
 use borrow.Author.Needs.{needs}
 use Rattle.position.specs.Ranges.{eastings, northings, moved, outOf, outAxis}
-use Rattle.position.proofs.Bounds.{Bounded, east-bounded, north-bounded, moved-fit}
-use lib.IntN.{ℤ, pos, negsuc, natAbs, _+ℤ_, _-ℤ_, _*ℤ_}
-use mir.Syntax.{w64}
-use mir.Val.{SFits, Fits, toZ, ofZ}
-use mir.Facts.{toZ-ofZ, toZ-pos}
+use Rattle.position.proofs.Bounds.{east-bounded, north-bounded, moved-fit}
+use mir.Facts.{toZ-ofZ}
 use Rattle.position.proofs.out_axis.Statement.{statement}
 use Rattle.position.proofs.out_axis.Tie as tie
 

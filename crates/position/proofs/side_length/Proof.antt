@@ -1,15 +1,11 @@
 -- `position::side_length` meets its contract, by what `half_of` ensures.
 -- Assumes nothing.
-use mathlib.Core.Path.{_≡_, refl, sym, ap, _∙_}
+use mathlib.Core.Path.{_≡_}
 use borrow.Author.Needs.{needs}
-use Prim.Native.Nat.{ℕ, suc, _+_, _-_, _*_, _^_, _≤_, _<_}
 use native.Mathlib.Omega.{arith}
 use Rattle.position.specs.Squares.{halfOf, sideLength}
 use Rattle.position.proofs.Squares.{half-le}
-use lib.IntN.{ℤ, pos, negsuc, natAbs, _+ℤ_, _-ℤ_, _*ℤ_}
-use mir.Syntax.{w64}
-use mir.Val.{SFits, Fits, toZ, ofZ}
-use mir.Facts.{toZ-ofZ, toZ-pos}
+use mir.Facts.{toZ-ofZ}
 use Rattle.position.proofs.side_length.Statement.{statement}
 use Rattle.position.proofs.side_length.Tie as tie
 

@@ -1,14 +1,12 @@
 -- `position::side_of` meets its contract: each return follows from the tests on the way, and the sums fit by the range.
 -- Assumes nothing.
-use mathlib.Core.Path.{_≡_, refl, sym, ap, _∙_}
-use mathlib.Core.Bool.{Bool, true, false}
 use lib.Dec.{lit≤}
 use Rattle.position.specs.Edges.{sideOf}
 use Rattle.position.proofs.Edges.{more-fits, less-fits}
-use lib.IntN.{ℤ, pos, negsuc, natAbs, _+ℤ_, _-ℤ_, _*ℤ_}
+use lib.IntN.{pos, _+ℤ_, _-ℤ_}
 use mir.Syntax.{w64}
-use mir.Val.{SFits, Fits, toZ, ofZ}
-use mir.Facts.{toZ-ofZ, toZ-pos}
+use mir.Val.{SFits}
+use mir.Facts.{toZ-ofZ}
 use Rattle.position.proofs.side_of.Statement.{statement}
 use Rattle.position.proofs.side_of.Tie as tie
 

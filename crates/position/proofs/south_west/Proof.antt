@@ -1,13 +1,11 @@
 -- `position::south_west` meets its contract, by what `corner_of` ensures of each axis.
 -- Assumes nothing.
-use mathlib.Core.Path.{_≡_, refl, sym, ap, _∙_}
+use mathlib.Core.Path.{_≡_}
 use borrow.Author.Needs.{needs}
 use Rattle.whole.proofs.Signed.{back}
-use Rattle.position.specs.Squares.{cornerOf, southWest}
-use lib.IntN.{ℤ, pos, negsuc, natAbs, _+ℤ_, _-ℤ_, _*ℤ_}
 use mir.Syntax.{w64}
-use mir.Val.{SFits, Fits, toZ, ofZ}
-use mir.Facts.{toZ-ofZ, toZ-pos}
+use mir.Val.{toZ, ofZ}
+use mir.Facts.{toZ-ofZ}
 use Rattle.position.proofs.south_west.Statement.{statement}
 use Rattle.position.proofs.south_west.Tie as tie
 

@@ -2,7 +2,6 @@
 -- Assumes nothing.
 use borrow.Author.Needs.{needs}
 use borrow.Author.Tests.{le-leb, lt-leb}
-use Rattle.rows.specs.Allowed.{foldColumn}
 use Rattle.rows.proofs.fold_column.Statement.{statement}
 use Rattle.rows.proofs.fold_column.Tie as tie
 

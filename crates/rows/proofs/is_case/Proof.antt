@@ -2,7 +2,6 @@
 -- Assumes nothing.
 use mathlib.Core.Bool.{or-false}
 use borrow.Author.Tests.{ne-eqb}
-use Rattle.rows.specs.Allowed.{case}
 use Rattle.rows.proofs.is_case.Statement.{statement}
 use Rattle.rows.proofs.is_case.Tie as tie
 

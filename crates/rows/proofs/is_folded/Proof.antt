@@ -1,19 +1,11 @@
 -- `rows::is_folded` meets its contract, by what the functions that it calls ensure.
 -- Assumes nothing.
-use mathlib.Core.Path.{_≡_, refl, sym, ap, _∙_}
+use mathlib.Core.Path.{_≡_, sym, _∙_}
 use mathlib.Core.Bool.{true, false}
-use Prim.Native.Nat.{ℕ, _+_, _-_, _*_, _%_, _^_, _<_, _≤_}
-use native.Mathlib.Omega.{arith}
-use native.Mathlib.Nat.{lt-trans}
 use borrow.Author.Needs.{needs}
-use borrow.Author.Tests.{le-leb, lt-leb, eq-eqb, ne-eqb}
-use lib.Dec.{lit<}
-use lib.IntN.{ℤ, pos, negsuc, natAbs, _+ℤ_, _-ℤ_}
-use mir.Syntax.{w64}
-use mir.Val.{SFits, Fits, toZ, ofZ}
-use mir.Facts.{toZ-ofZ, toZ-pos}
+use mir.Facts.{toZ-ofZ}
 use Rattle.whole.specs.Floor.{fold}
-use Rattle.rows.specs.Allowed.{foldColumn, case, sameSign, folded}
+use Rattle.rows.specs.Allowed.{sameSign}
 use Rattle.rows.proofs.is_folded.Statement.{statement}
 use Rattle.rows.proofs.is_folded.Tie as tie
 

@@ -1,16 +1,13 @@
 -- `rows::is_within` meets its contract, by what `limits_of` ensures.
 -- Assumes nothing.
 use borrow.Author.Needs.{needs}
-use mathlib.Core.Path.{_≡_, ap, _∙_}
+use mathlib.Core.Path.{_≡_}
 use mathlib.Core.Bool.{true, false}
-use native.Mathlib.Omega.{arith}
-use lib.IntN.{ℤ}
 use lib.Signed.{leZ}
 use mir.Syntax.{w64}
 use mir.Val.{toZ, ofZ}
 use mir.Facts.{toZ-ofZ}
-use Rattle.rows.specs.Limits.{limitsOf, lowest, highest}
-use Rattle.rows.specs.Allowed.{within}
+use Rattle.rows.specs.Limits.{lowest, highest}
 use Rattle.rows.proofs.Back.{low-back, high-back}
 use Rattle.rows.proofs.is_within.Statement.{statement}
 use Rattle.rows.proofs.is_within.Tie as tie

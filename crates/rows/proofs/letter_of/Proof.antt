@@ -1,20 +1,12 @@
 -- `rows::letter_of` meets its contract, by what `floor_mod` ensures.
 -- Assumes nothing.
-use mathlib.Core.Path.{_≡_, refl, sym, ap, _∙_}
-use mathlib.Core.Bool.{true, false}
-use Prim.Native.Nat.{ℕ, _+_, _-_, _*_, _%_, _^_, _<_, _≤_}
+use mathlib.Core.Path.{_≡_}
 use native.Mathlib.Omega.{arith}
-use native.Mathlib.Nat.{lt-trans}
 use borrow.Author.Needs.{needs}
-use borrow.Author.Tests.{le-leb, lt-leb, eq-eqb, ne-eqb}
 use lib.Dec.{lit<}
-use lib.IntN.{ℤ, pos, negsuc, natAbs, _+ℤ_, _-ℤ_}
-use mir.Syntax.{w64}
-use mir.Val.{SFits, Fits, toZ, ofZ}
-use mir.Facts.{toZ-ofZ, toZ-pos}
+use mir.Facts.{toZ-ofZ}
 use Rattle.whole.specs.Floor.{floorMod}
 use Rattle.whole.proofs.Floor.{floorMod-lt}
-use Rattle.rows.specs.Letters.{letterOf}
 use Rattle.rows.proofs.Period.{letter-is}
 use Rattle.rows.proofs.letter_of.Statement.{statement}
 use Rattle.rows.proofs.letter_of.Tie as tie

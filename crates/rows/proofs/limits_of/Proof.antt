@@ -2,18 +2,16 @@
 -- Assumes nothing.
 use mathlib.Core.Path.{_≡_, refl, sym, ap, _∙_}
 use mathlib.Core.Bool.{true, false}
-use Prim.Native.Nat.{ℕ, _+_, _-_, _*_, _%_, _^_, _<_, _≤_}
+use Prim.Native.Nat.{ℕ, _<_}
 use native.Mathlib.Omega.{arith}
-use borrow.Author.Needs.{needs}
 use lib.IntN.{ℤ, pos, negsuc, natAbs, _+ℤ_, _-ℤ_}
 use mir.Syntax.{w64}
-use mir.Val.{SFits, Fits, toZ, ofZ}
-use mir.Facts.{toZ-ofZ, toZ-pos}
-use lib.Signed.{ltZ, leZ}
+use mir.Val.{SFits, toZ, ofZ}
+use mir.Facts.{toZ-ofZ}
+use lib.Signed.{ltZ}
 use Rattle.whole.proofs.Parts.{up, dn, eq-by, lt-yes, lt-no, add-parts, sub-parts}
-use Rattle.whole.proofs.Signed.{fits-in, is-count, cast-asks, cast-gives}
+use Rattle.whole.proofs.Signed.{is-count}
 use Rattle.whole.proofs.Table.{row}
-use Rattle.rows.specs.declared.Limits.{Limits}
 use Rattle.rows.specs.Limits.{limitsOf, none}
 use Rattle.rows.proofs.Near.{past}
 use Rattle.rows.proofs.limits_of.Statement.{statement}

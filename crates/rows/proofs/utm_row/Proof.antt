@@ -1,19 +1,11 @@
 -- `rows::utm_row` meets its contract: the candidate is the row that is sought, where it is allowed.
 -- Assumes nothing.
-use mathlib.Core.Path.{_≡_, refl, sym, ap, _∙_}
-use mathlib.Core.Bool.{true, false}
-use Prim.Native.Nat.{ℕ, _+_, _-_, _*_, _%_, _^_, _<_, _≤_}
-use native.Mathlib.Omega.{arith}
-use native.Mathlib.Nat.{lt-trans}
+use mathlib.Core.Path.{_≡_, sym, _∙_}
 use borrow.Author.Needs.{needs}
-use borrow.Author.Tests.{le-leb, lt-leb, eq-eqb, ne-eqb}
-use lib.Dec.{lit<}
-use lib.IntN.{ℤ, pos, negsuc, natAbs, _+ℤ_, _-ℤ_}
 use mir.Syntax.{w64}
-use mir.Val.{SFits, Fits, toZ, ofZ}
-use mir.Facts.{toZ-ofZ, toZ-pos}
+use mir.Val.{toZ, ofZ}
+use mir.Facts.{toZ-ofZ}
 use Rattle.rows.specs.Allowed.{allowed}
-use Rattle.rows.specs.Resolve.{resolve}
 use Rattle.rows.specs.Direct.{candidate}
 use Rattle.rows.proofs.Theorems.{no-letter, taken, not-taken}
 use Rattle.rows.proofs.utm_row.Statement.{statement}

@@ -1,18 +1,8 @@
 -- `rows::utm_row_at` meets its contract, by what `utm_row` ensures of the letter of an odd zone.
 -- Assumes nothing.
-use mathlib.Core.Path.{_≡_, refl, sym, ap, _∙_}
-use mathlib.Core.Bool.{true, false}
-use Prim.Native.Nat.{ℕ, _+_, _-_, _*_, _%_, _^_, _<_, _≤_}
-use native.Mathlib.Omega.{arith}
-use native.Mathlib.Nat.{lt-trans}
+use mathlib.Core.Path.{sym, _∙_}
 use borrow.Author.Needs.{needs}
-use borrow.Author.Tests.{le-leb, lt-leb, eq-eqb, ne-eqb}
-use lib.Dec.{lit<}
-use lib.IntN.{ℤ, pos, negsuc, natAbs, _+ℤ_, _-ℤ_}
-use mir.Syntax.{w64}
-use mir.Val.{SFits, Fits, toZ, ofZ}
-use mir.Facts.{toZ-ofZ, toZ-pos}
-use Rattle.rows.specs.Resolve.{resolve}
+use mir.Facts.{toZ-ofZ}
 use Rattle.rows.proofs.Theorems.{no-letter, shifted}
 use Rattle.rows.proofs.utm_row_at.Statement.{statement}
 use Rattle.rows.proofs.utm_row_at.Tie as tie

@@ -1,25 +1,19 @@
 -- `whole::floor_div` meets its contract: the quotient of the folded number, folded back below zero.
 -- Assumes nothing.
 use mathlib.Core.Path.{_≡_, _∙_, sym}
-use mathlib.Core.Bool.{true, false}
-use Prim.Native.Nat.{ℕ, _/_, _^_, _<_}
+use Prim.Native.Nat.{ℕ, _/_}
 use native.Mathlib.Nat.{div-le-self, lt-of-le-of-lt}
 use native.Mathlib.Omega.{arith}
 use borrow.Author.Needs.{needs}
-use borrow.Author.Tests.{eq-eqb}
 use lib.IntN.{ℤ, pos, negsuc, _-ℤ_}
-use lib.Signed.{ltZ}
 use mir.Syntax.{w64}
-use mir.Val.{SFits, toZ, ofZ}
+use mir.Val.{SFits, toZ}
 use mir.Facts.{toZ-ofZ, toZ-pos}
-use Rattle.whole.specs.Floor.{fold, floorDiv}
+use Rattle.whole.specs.Floor.{fold}
 use Rattle.whole.proofs.Parts.{up, dn, eq-by, sub-parts}
 use Rattle.whole.proofs.Floor.{by-zero, div-below, div-above, fold-lt}
 use Rattle.whole.proofs.floor_div.Statement.{statement}
 use Rattle.whole.proofs.floor_div.Tie as tie
-use Rattle.whole.proofs.floor_div.Reads as reads
-use Rattle.whole.proofs.floor_div.Lts as lts
-use Rattle.whole.proofs.fold_of.Reads as fold-of-reads
 
 -- what the call gives
 folded : (c : tie.After-fold-of) → c .fold-of .result ≡ fold (c .before .before .args .x)

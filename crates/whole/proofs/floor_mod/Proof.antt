@@ -1,13 +1,12 @@
 -- `whole::floor_mod` meets its contract: the remainder of the folded number, counted from the other end below zero.
 -- Assumes nothing.
-use mathlib.Core.Path.{_≡_, _∙_, sym}
-use mathlib.Core.Bool.{true, false}
-use Prim.Native.Nat.{ℕ, _-_, _%_, _<_}
+use mathlib.Core.Path.{_≡_, sym}
+use Prim.Native.Nat.{_<_}
 use native.Mathlib.Nat.{mod-lt}
 use native.Mathlib.Omega.{arith}
 use borrow.Author.Needs.{needs}
 use mir.Facts.{toZ-ofZ}
-use Rattle.whole.specs.Floor.{fold, floorMod}
+use Rattle.whole.specs.Floor.{fold}
 use Rattle.whole.proofs.Floor.{by-zero, mod-below, mod-above}
 use Rattle.whole.proofs.floor_mod.Statement.{statement}
 use Rattle.whole.proofs.floor_mod.Tie as tie

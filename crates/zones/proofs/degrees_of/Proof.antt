@@ -1,6 +1,5 @@
 -- `zones::degrees_of` meets its contract, by what `floor_div` ensures.
 -- Assumes nothing.
-use mathlib.Core.Path.{_≡_, sym, _∙_}
 use mir.Facts.{toZ-ofZ}
 use borrow.Author.Needs.{needs}
 use Rattle.whole.proofs.Signed.{back}

@@ -1,11 +1,8 @@
 -- `zones::is_arctic` meets its contract.
 -- Assumes nothing.
-use mathlib.Core.Bool.{true, false, _&&_}
 use lib.Dec.{lit<}
 use mir.Facts.{toZ-ofZ}
-use Rattle.whole.specs.Compare.{isNumber}
 use Rattle.whole.proofs.Signed.{is, is-not}
-use Rattle.zones.specs.Zones.{arctic}
 use Rattle.zones.proofs.is_arctic.Statement.{statement}
 use Rattle.zones.proofs.is_arctic.Tie as tie
 

@@ -1,6 +1,5 @@
 -- `zones::plain_zone` meets its contract, by what `floor_div` ensures.
 -- Assumes nothing.
-use mathlib.Core.Path.{_≡_, sym, _∙_}
 use borrow.Author.Needs.{needs}
 use Rattle.whole.proofs.Signed.{back}
 use lib.Dec.{lit≤}

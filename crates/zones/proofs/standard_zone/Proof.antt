@@ -1,11 +1,10 @@
 -- `zones::standard_zone` meets its contract: each refusal follows from the tests on the way, the zone from the functions that it calls.
 -- Assumes nothing.
-use mathlib.Core.Path.{_≡_, sym, _∙_}
+use mathlib.Core.Path.{_≡_}
 use borrow.Author.Needs.{needs}
 use Rattle.whole.proofs.Signed.{back}
-use Rattle.zones.specs.Zones.{degrees, bandOf, turned, zoneAt, zoneOf}
+use Rattle.zones.specs.Zones.{degrees, turned, zoneOf}
 use Rattle.zones.proofs.Degrees.{turned-range}
-use lib.IntN.{ℤ, pos, negsuc, _+ℤ_, _-ℤ_, _*ℤ_}
 use mir.Syntax.{w64}
 use mir.Val.{toZ, ofZ}
 use mir.Facts.{toZ-ofZ}

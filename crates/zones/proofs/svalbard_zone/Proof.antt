@@ -1,13 +1,13 @@
 -- `zones::svalbard_zone` meets its contract, by what `floor_div` ensures.
 -- Assumes nothing.
-use mathlib.Core.Path.{_≡_, sym, _∙_}
+use mathlib.Core.Path.{_≡_}
 use borrow.Author.Needs.{needs}
 use Rattle.whole.proofs.Signed.{back}
 use lib.Dec.{lit≤}
 use Rattle.whole.specs.Floor.{floorDiv}
 use Rattle.zones.specs.Zones.{svalbard}
 use Rattle.zones.proofs.Degrees.{more-fits, double-fits, svalbard-fits}
-use lib.IntN.{ℤ, pos, negsuc, _+ℤ_, _-ℤ_, _*ℤ_}
+use lib.IntN.{pos, _+ℤ_}
 use mir.Syntax.{w64}
 use mir.Val.{toZ, ofZ}
 use mir.Facts.{toZ-ofZ}

@@ -1,11 +1,9 @@
 -- `zones::to_latitude_band` meets its contract: each return follows from the tests on the way.
 -- Assumes nothing.
-use mathlib.Core.Path.{_≡_, sym, _∙_}
-use mathlib.Core.Bool.{true, false, _&&_}
+use mathlib.Core.Path.{_≡_}
 use borrow.Author.Needs.{needs}
 use Rattle.whole.proofs.Signed.{back}
 use Rattle.zones.specs.Zones.{degrees, bandAt, bandOf}
-use lib.IntN.{ℤ, pos, negsuc, _+ℤ_, _-ℤ_, _*ℤ_}
 use mir.Syntax.{w64}
 use mir.Val.{toZ, ofZ}
 use mir.Facts.{toZ-ofZ}

@@ -1,10 +1,9 @@
 -- `zones::turned_degrees` meets its contract, by what `floor_mod` ensures.
 -- Assumes nothing.
-use mathlib.Core.Path.{_≡_, sym, _∙_}
+use mathlib.Core.Path.{_≡_}
 use borrow.Author.Needs.{needs}
 use Rattle.whole.proofs.Signed.{back}
 use native.Mathlib.Omega.{arith}
-use Prim.Native.Nat.{_<_}
 use lib.Dec.{lit<}
 use Rattle.whole.specs.Floor.{floorMod}
 use Rattle.whole.proofs.Floor.{floorMod-lt}
@@ -12,7 +11,7 @@ use Rattle.zones.specs.Zones.{degrees, turned}
 use Rattle.zones.proofs.Degrees.{sum-fits, turned-range, near-fits}
 use mir.Facts.{toZ-pos}
 use mir.Val.{SFits}
-use lib.IntN.{ℤ, pos, negsuc, _+ℤ_, _-ℤ_, _*ℤ_}
+use lib.IntN.{ℤ, pos, _+ℤ_, _-ℤ_}
 use mir.Syntax.{w64}
 use mir.Val.{toZ, ofZ}
 use mir.Facts.{toZ-ofZ}

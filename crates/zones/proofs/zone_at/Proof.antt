@@ -1,11 +1,9 @@
 -- `zones::zone_at` meets its contract, by what the functions that it calls ensure.
 -- Assumes nothing.
 use mathlib.Core.Path.{_≡_, sym, _∙_}
-use mathlib.Core.Bool.{true, false, _&&_}
 use borrow.Author.Needs.{needs}
 use Rattle.whole.proofs.Signed.{back}
-use Rattle.zones.specs.Zones.{plain, norway, arctic, svalbard, zoneAt}
-use lib.IntN.{ℤ, pos, negsuc, _+ℤ_, _-ℤ_, _*ℤ_}
+use Rattle.zones.specs.Zones.{plain, norway, arctic, zoneAt}
 use mir.Syntax.{w64}
 use mir.Val.{toZ, ofZ}
 use mir.Facts.{toZ-ofZ}
