@@ -1,5 +1,5 @@
 -- What a point in range is after its upper ends are lowered. Assumes nothing.
-use mathlib.Core.Path.{_≡_, refl, sym, _∙_, subst}
+use mathlib.Core.Path.{_≡_, refl, _∙_, subst}
 use mathlib.Core.Bool.{Bool, true, false, cond}
 use Prim.Native.Nat.{ℕ, _+_, _≤_}
 use native.Mathlib.Omega.{arith}
@@ -9,11 +9,12 @@ use lib.Signed.{ltZ, _≤ℤ_}
 use mir.Syntax.{w64}
 use mir.Val.{SFits}
 use Rattle.whole.specs.Compare.{same}
-use Rattle.whole.proofs.Parts.{up, dn, lt-no, add-parts, sub-parts, le-true, ≤ℤ-parts}
-use Rattle.whole.proofs.Signed.{fits-in, same→eq}
+use Rattle.whole.proofs.Parts.{up, dn, lt-no, add-parts, sub-parts, ≤ℤ-parts}
+use Rattle.whole.proofs.Signed.{same→eq}
+use Rattle.whole.proofs.Small.{Small, fits, computed, count, between, sum, difference, at-least, at-most}
 use Rattle.position.specs.declared.Ends.{Ends}
 use Rattle.position.specs.declared.OutAxis.the-variants.{Neither, Easting, Northing}
-use Rattle.position.specs.Ranges.{eastings, northings, moved, outOf, outAxis}
+use Rattle.position.specs.Ranges.{tiles, eastings, northings, moved, outOf, outAxis}
 use Rattle.position.specs.Edges.{lowered}
 use Rattle.position.proofs.Bounds.{north-bounded}
 
@@ -22,19 +23,19 @@ pub record Between (ends : Ends) (x : ℤ) : Type 0 where
   pub from : up (ends .low) + dn x ≤ up x + dn (ends .low)
   pub to : up x + dn (ends .high) ≤ up (ends .high) + dn x
 
-between-by : (ends : Ends) (x : ℤ) (below above : Bool) → ltZ x (ends .low -ℤ pos 0) ≡ below → ltZ (ends .high +ℤ pos 0) x ≡ above → cond below true above ≡ false → Between ends x
+lies-by : (ends : Ends) (x : ℤ) (below above : Bool) → ltZ x (ends .low -ℤ pos 0) ≡ below → ltZ (ends .high +ℤ pos 0) x ≡ above → cond below true above ≡ false → Between ends x
 unfolding up dn
-between-by ends x true above p q e = absurd (subst T e tt)
-between-by ends x false above p q e =
+lies-by ends x true above p q e = absurd (subst T e tt)
+lies-by ends x false above p q e =
     let a = lt-no x (ends .low -ℤ pos 0) p in
     let b = lt-no (ends .high +ℤ pos 0) x (q ∙ e) in
     let s = sub-parts (ends .low) (pos 0) in
     let t = add-parts (ends .high) (pos 0) in
     record { from = omega arith; to = omega arith }
 
-between : (ends : Ends) (x : ℤ) → outOf (moved (pos 0) ends) x ≡ false → Between ends x
+lies : (ends : Ends) (x : ℤ) → outOf (moved (pos 0) ends) x ≡ false → Between ends x
 unfolding outOf
-between ends x e = between-by ends x (ltZ x (ends .low -ℤ pos 0)) (ltZ (ends .high +ℤ pos 0) x) refl refl e
+lies ends x e = lies-by ends x (ltZ x (ends .low -ℤ pos 0)) (ltZ (ends .high +ℤ pos 0) x) refl refl e
 
 not-east : {X : Type 0} → Easting ≡ Neither → X
 not-east e = let z : _≡_ {A = ℕ} 0 1 = cc in absurd (omega arith)
@@ -53,47 +54,38 @@ module _ (utm north : Bool) (e n : ℤ) where
   unfolding outAxis
   inside h =
       let s = both-by (outOf (moved (pos 0) (eastings utm north)) e) (outOf (moved (pos 0) (northings utm north)) n) h in
-      (between (eastings utm north) e (s .0), between (northings utm north) n (s .1))
+      (lies (eastings utm north) e (s .0), lies (northings utm north) n (s .1))
 
 -- a UTM northing between its ends lies between -90 and 195 tiles, and so does it lowered
+abbrev pub Wide : ℤ → Type 0
+Wide n = (tiles (negsuc 89) ≤ℤ n) × (n ≤ℤ tiles (pos 195))
+
 wide : (north : Bool) (n : ℤ) → Between (northings true north) n → (dn n ≤ up n + 18000000000000) × (up n ≤ dn n + 39000000000000)
 unfolding up dn
 wide true n b = let h = b .from in let k = b .to in (omega arith, omega arith)
 wide false n b = let h = b .from in let k = b .to in (omega arith, omega arith)
 
-lowered-by : (x high : ℤ) (t : Bool) → same x high ≡ t → pos 0 ≤ℤ high → (dn x ≤ up x + 18000000000000) × (up x ≤ dn x + 39000000000000) → (negsuc 17999999999999 ≤ℤ cond t (x -ℤ pos 1) x) × (cond t (x -ℤ pos 1) x ≤ℤ pos 39000000000000)
+lowered-by : (x high : ℤ) (t : Bool) → same x high ≡ t → pos 0 ≤ℤ high → (dn x ≤ up x + 18000000000000) × (up x ≤ dn x + 39000000000000) → Wide (cond t (x -ℤ pos 1) x)
 unfolding up dn
 lowered-by x high true e g (h, k) =
     let a = rw (← same→eq x high e) at (≤ℤ-parts (pos 0) high g) in
     let s = sub-parts x (pos 1) in
-    let y = le-true (negsuc 17999999999999) (x -ℤ pos 1) (omega arith) in
-    let z = le-true (x -ℤ pos 1) (pos 39000000000000) (omega arith) in
-    (record { le = subst T (sym y) tt }, record { le = subst T (sym z) tt })
-lowered-by x high false e g (h, k) =
-    let y = le-true (negsuc 17999999999999) x (omega arith) in
-    let z = le-true x (pos 39000000000000) (omega arith) in
-    (record { le = subst T (sym y) tt }, record { le = subst T (sym z) tt })
+    (at-least 17999999999999 (x -ℤ pos 1) (omega arith), at-most 39000000000000 (x -ℤ pos 1) (omega arith))
+lowered-by x high false e g (h, k) = (at-least 17999999999999 x h, at-most 39000000000000 x k)
 
-pub lowered-wide : (north : Bool) (n : ℤ) → Between (northings true north) n → (negsuc 17999999999999 ≤ℤ lowered (northings true north) n) × (lowered (northings true north) n ≤ℤ pos 39000000000000)
+pub lowered-wide : (north : Bool) (n : ℤ) → Between (northings true north) n → Wide (lowered (northings true north) n)
 unfolding lowered
 lowered-wide north n b =
     let high = northings true north .high in
     lowered-by n high (same n high) refl (north-bounded true north .above) (wide north n b)
 
 -- a northing in that range, moved by a hundred tiles or less
-module _ (n : ℤ) (h : (negsuc 17999999999999 ≤ℤ n) × (n ≤ℤ pos 39000000000000)) (k : ℕ) (small : k ≤ 20000000000000) where
+module _ (n : ℤ) (h : Wide n) (k : ℕ) (g : k ≤ 20000000000000) where
+  small : Small 39000000000000 n
+  small = between (tiles (negsuc 89)) (tiles (pos 195)) n (computed _ _ tt) (computed _ _ tt) h
+
   pub more-fits : SFits w64 (n +ℤ pos k)
-  unfolding up dn
-  more-fits =
-      let s = add-parts n (pos k) in
-      let a = ≤ℤ-parts (negsuc 17999999999999) n (h .0) in
-      let b = ≤ℤ-parts n (pos 39000000000000) (h .1) in
-      fits-in (n +ℤ pos k) 100000000000000 100000000000000 (omega arith) (omega arith) (lit≤ tt) (lit≤ tt)
+  more-fits = fits (sum n (pos k) small (count 20000000000000 k g)) (lit≤ tt)
 
   pub less-fits : SFits w64 (n -ℤ pos k)
-  unfolding up dn
-  less-fits =
-      let s = sub-parts n (pos k) in
-      let a = ≤ℤ-parts (negsuc 17999999999999) n (h .0) in
-      let b = ≤ℤ-parts n (pos 39000000000000) (h .1) in
-      fits-in (n -ℤ pos k) 100000000000000 100000000000000 (omega arith) (omega arith) (lit≤ tt) (lit≤ tt)
+  less-fits = fits (difference n (pos k) small (count 20000000000000 k g)) (lit≤ tt)

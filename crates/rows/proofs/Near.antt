@@ -7,43 +7,40 @@ use Prim.Native.Nat.{ℕ, _+_, _≤_}
 use native.Mathlib.Omega.{arith}
 use lib.Dec.{T, eqb, leb, ltb, eqb→eq}
 use borrow.Author.Tests.{ne-eqb, ltb-true, ltb-false}
-use lib.IntN.{ℤ, pos, negsuc, _+ℤ_}
+use lib.IntN.{ℤ, pos, negsuc, natAbs, _+ℤ_}
 use lib.ListN.{getD, List·getD-eq-default}
 use lib.Signed.{leZ}
 use mir.Facts.{and-yes, or-yes}
 use Rattle.whole.proofs.Parts.{up, dn, T-true, le-yes, add-parts}
+use Rattle.whole.proofs.Small.{Small, computed}
 use Rattle.whole.proofs.Table.{all, each}
 use Rattle.rows.specs.declared.Limits.{Limits}
-use Rattle.rows.specs.Limits.{limitsOf, lowest, highest, northern, none}
-use Rattle.rows.specs.Allowed.{within, sameSign, case, folded, foldColumn, allowed}
+use Rattle.rows.specs.Limits.{limitsOf, lowest, highest, northern, noRows}
+use Rattle.rows.specs.Allowed.{within, sameSign, foldedCase, folded, foldColumn, allowed}
 
 -- past the tenth band there are no limits
-pub past : (b : ℕ) → 10 ≤ b → (limitsOf (pos b) ≡ none) × (limitsOf (negsuc b) ≡ none)
+pub past : (b : ℕ) → 10 ≤ b → (limitsOf (pos b) ≡ noRows) × (limitsOf (negsuc b) ≡ noRows)
 unfolding limitsOf
 past b h =
-    let e : getD northern b none ≡ none = List·getD-eq-default northern none h in
+    let e : getD northern b noRows ≡ noRows = List·getD-eq-default northern noRows h in
     (e, rw (ne-eqb b 9 (λ q. omega arith), e))
 
 -- a test that the ten pairs, their mirrors and no pair pass
-by-band : (f : Limits → Bool) (g : ℕ → ℤ) (b : ℕ) (t : Bool) → ltb b 10 ≡ t → T (all 10 (λ n. f (limitsOf (g n)))) → T (f none) → (10 ≤ b → limitsOf (g b) ≡ none) → T (f (limitsOf (g b)))
+by-band : (f : Limits → Bool) (g : ℕ → ℤ) (b : ℕ) (t : Bool) → ltb b 10 ≡ t → T (all 10 (λ n. f (limitsOf (g n)))) → T (f noRows) → (10 ≤ b → limitsOf (g b) ≡ noRows) → T (f (limitsOf (g b)))
 by-band f g b true e h u d = each 10 (λ n. f (limitsOf (g n))) h b (ltb-true b 10 e)
 by-band f g b false e h u d = rw (d (ltb-false b 10 e)) u
 
-for-all : (f : Limits → Bool) → T (all 10 (λ n. f (limitsOf (pos n)))) → T (all 10 (λ n. f (limitsOf (negsuc n)))) → T (f none) → (b : ℤ) → T (f (limitsOf b))
+for-all : (f : Limits → Bool) → T (all 10 (λ n. f (limitsOf (pos n)))) → T (all 10 (λ n. f (limitsOf (negsuc n)))) → T (f noRows) → (b : ℤ) → T (f (limitsOf b))
 for-all f n m u (pos b) = by-band f pos b (ltb b 10) refl n u (λ h. past b h .0)
 for-all f n m u (negsuc b) = by-band f negsuc b (ltb b 10) refl m u (λ h. past b h .1)
 
--- the limits' range, and how far apart they lie
+-- the limits are small, and not far apart
 abbrev ranged : Limits → Bool
-ranged l =
-    leZ (negsuc 89) (l .low)
-    && (leZ (l .low) (pos 80) && (leZ (negsuc 89) (l .high) && (leZ (l .high) (pos 94) && leZ (l .high) (l .low +ℤ pos 18))))
+ranged l = leb (natAbs (l .low)) 90 && (leb (natAbs (l .high)) 94 && leZ (l .high) (l .low +ℤ pos 18))
 
 pub record Ranged (b : ℤ) : Type 0 where
-  pub low-least : dn (lowest b) ≤ up (lowest b) + 90
-  pub low-most : up (lowest b) ≤ dn (lowest b) + 80
-  pub high-least : dn (highest b) ≤ up (highest b) + 90
-  pub high-most : up (highest b) ≤ dn (highest b) + 94
+  pub low : Small 90 (lowest b)
+  pub high : Small 94 (highest b)
   pub gap : up (highest b) + dn (lowest b) ≤ dn (highest b) + up (lowest b) + 18
 
 pub le-of : (a b : ℤ) → T (leZ a b) → up a + dn b ≤ up b + dn a
@@ -52,18 +49,11 @@ le-of a b t = le-yes a b (T-true (leZ a b) t)
 pub limits-ranged : (b : ℤ) → Ranged b
 unfolding up dn limitsOf
 limits-ranged b =
-    let t = for-all ranged tt tt tt b in
-    let s = and-yes (leZ (negsuc 89) (lowest b)) _ t in
-    let q = and-yes (leZ (lowest b) (pos 80)) _ (s .1) in
-    let w = and-yes (leZ (negsuc 89) (highest b)) _ (q .1) in
-    let v = and-yes (leZ (highest b) (pos 94)) (leZ (highest b) (lowest b +ℤ pos 18)) (w .1) in
+    let s = and-yes (leb (natAbs (lowest b)) 90) _ (for-all ranged tt tt tt b) in
+    let q = and-yes (leb (natAbs (highest b)) 94) (leZ (highest b) (lowest b +ℤ pos 18)) (s .1) in
     let e = add-parts (lowest b) (pos 18) in
-    let a1 = le-of (negsuc 89) (lowest b) (s .0) in
-    let a2 = le-of (lowest b) (pos 80) (q .0) in
-    let a3 = le-of (negsuc 89) (highest b) (w .0) in
-    let a4 = le-of (highest b) (pos 94) (v .0) in
-    let a5 = le-of (highest b) (lowest b +ℤ pos 18) (v .1) in
-    record { low-least = omega arith; low-most = omega arith; high-least = omega arith; high-most = omega arith; gap = omega arith }
+    let g = le-of (highest b) (lowest b +ℤ pos 18) (q .1) in
+    record { low = computed 90 (lowest b) (s .0); high = computed 94 (highest b) (q .0); gap = omega arith }
 
 -- the band's side of the equator
 northward : (b : ℕ) → T (leZ (pos 0) (lowest (pos b)))
@@ -97,7 +87,10 @@ within-placed b r t =
     let h = le-of (lowest b) r (s .0) in
     let k = le-of r (highest b) (s .1) in
     let q = limits-ranged b in
-    record { from-base = omega (arith, q .gap); to-base = omega (arith, q .gap); least = omega (arith, q .low-least); most = omega (arith, q .high-most); sign = by-sign b r (s .0) (s .1) }
+    let g = q .gap in
+    let x = q .low .least in
+    let y = q .high .most in
+    record { from-base = omega arith; to-base = omega arith; least = omega arith; most = omega arith; sign = by-sign b r (s .0) (s .1) }
 
 -- the four folded cases, on either side, computed
 abbrev near : ℤ → ℤ → Bool
@@ -115,7 +108,7 @@ at-pair r b m n t h k =
 any-of : {X : Type 0} (p q u v : Bool) → T (p || q || u || v) → (T p → X) → (T q → X) → (T u → X) → (T v → X) → X
 any-of p q u v t f g h k = ⊎-elim (λ (t : T (p || q || u)). ⊎-elim (λ (t : T (p || q)). ⊎-elim f g (or-yes p q t)) h (or-yes (p || q) u t)) k (or-yes (p || q || u) v t)
 
-case-both : (r b c : ℕ) → T (case r b c) → T (both r b)
+case-both : (r b c : ℕ) → T (foldedCase r b c) → T (both r b)
 unfolding limitsOf
 case-both r b c t =
     any-of (eqb r 70 && eqb b 8 && leb 2 c) (eqb r 71 && eqb b 7 && leb c 2) (eqb r 79 && eqb b 9 && leb 1 c) (eqb r 80 && eqb b 8 && leb c 1) t

@@ -53,10 +53,6 @@ same-row s q r h k e =
     eq-by q r (omega arith)
 
 -- the same letter, as an odd zone counts it
-pub unshift-lt : (s l : ℕ) → unshifted s l < 20
-unfolding unshifted
-unshift-lt s l = omega arith
-
 pub unshift : (s : ℕ) (r : ℤ) (l : ℕ) → letterOf s r ≡ l → letterOf 0 r ≡ unshifted s l
 unfolding unshifted
 unshift s r l e =

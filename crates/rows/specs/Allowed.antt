@@ -23,8 +23,8 @@ abbrev pub foldColumn : ℕ → ℕ
 foldColumn c = cond (leb c 3) c (7 - c)
 
 -- "Then (row, band, column): (70, 8, at least 2), (71, 7, at most 2), (79, 9, at least 1), (80, 8, at most 1)."
-abbrev pub case : ℕ → ℕ → ℕ → Bool
-case r b c =
+abbrev pub foldedCase : ℕ → ℕ → ℕ → Bool
+foldedCase r b c =
     (eqb r 70 && eqb b 8 && leb 2 c)
     || (eqb r 71 && eqb b 7 && leb c 2)
     || (eqb r 79 && eqb b 9 && leb 1 c)
@@ -32,7 +32,7 @@ case r b c =
 
 -- "Outside the limits four folded cases are allowed": of band, column and row.
 abbrev pub folded : ℤ → ℕ → ℤ → Bool
-folded b c r = sameSign b r && case (fold r) (fold b) (foldColumn c)
+folded b c r = sameSign b r && foldedCase (fold r) (fold b) (foldColumn c)
 
 -- A row that a band and a column index allow; columns are 0..7.
 unfoldable pub allowed : ℤ → ℕ → ℤ → Bool

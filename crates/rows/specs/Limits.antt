@@ -7,12 +7,13 @@ use lib.IntN.{ℤ, pos, negsuc}
 use lib.ListN.{getD}
 use Rattle.rows.specs.declared.Limits.{Limits}
 
--- Two rows, l-h; 0 to -1, which hold none, for a band that does not exist.
+-- Two rows, l-h.
 abbrev pub l-h : ℕ → ℕ → Limits
 l-h l h = record { low = pos l; high = pos h }
 
-abbrev pub none : Limits
-none = record { low = pos 0; high = negsuc 0 }
+-- 0 to -1, which hold no row: for a band that does not exist.
+abbrev pub noRows : Limits
+noRows = record { low = pos 0; high = negsuc 0 }
 
 -- "Bands 0..9: 0-8, 8-17, 17-26, 26-35, 35-44, 44-53, 53-62, 62-70, 71-79, 80-94."
 abbrev pub northern : List Limits
@@ -39,8 +40,8 @@ mirrored l = record { low = mirror (l .high); high = mirror (l .low) }
 
 -- "Band b below 0 mirrors band -b-1 ..; but band -10 is -90 to -81."
 unfoldable pub limitsOf : ℤ → Limits
-limitsOf (pos b) = getD northern b none
-limitsOf (negsuc b) = cond (eqb b 9) (record { low = negsuc 89; high = negsuc 80 }) (mirrored (getD northern b none))
+limitsOf (pos b) = getD northern b noRows
+limitsOf (negsuc b) = cond (eqb b 9) (record { low = negsuc 89; high = negsuc 80 }) (mirrored (getD northern b noRows))
 
 abbrev pub lowest : ℤ → ℤ
 lowest b = limitsOf b .low

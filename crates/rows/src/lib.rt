@@ -2,7 +2,7 @@
 ghost use mathlib.Core.Path.{_≡_};
 ghost use Prim.Native.Nat.{_<_};
 ghost use Rattle.rows.specs.Limits.{limitsOf};
-ghost use Rattle.rows.specs.Allowed.{foldColumn, sameSign, case, within, folded, allowed};
+ghost use Rattle.rows.specs.Allowed.{foldColumn, sameSign, foldedCase, within, folded, allowed};
 ghost use Rattle.rows.specs.Letters.{shiftOf, letterOf};
 ghost use Rattle.rows.specs.Resolve.{resolve};
 ghost use Rattle.rows.specs.Direct.{candidate, unshifted};
@@ -106,7 +106,7 @@ fn same_sign(a: i64, b: i64) -> bool
 
 // The four cases, of row, band and column, each folded.
 fn is_case(r: u64, b: u64, c: usize) -> bool
-    ensures { λ t. ⌜ t ≡ case r b c ⌝ }
+    ensures { λ t. ⌜ t ≡ foldedCase r b c ⌝ }
 {
     match r {
         70 => {

@@ -2,7 +2,7 @@
 use mathlib.Core.Path.{_≡_, sym, ap}
 use mathlib.Core.Bool.{true, false}
 use Prim.Native.Nat.{ℕ, suc, _+_, _-_, _*_, _/_, _%_, _<_}
-use native.Mathlib.Nat.{zero-div, suc-mul, add-div-right, div-eq-of-lt, mod-lt, div-add-mod', div-le-self, lt-of-le-of-lt}
+use native.Mathlib.Nat.{zero-div, suc-mul, add-div-right, div-eq-of-lt, mod-lt, div-add-mod'}
 use native.Mathlib.Omega.{arith}
 use borrow.Author.Tests.{eq-eqb, ne-eqb}
 use lib.IntN.{ℤ, pos, negsuc, _+ℤ_, _*ℤ_}
@@ -78,11 +78,6 @@ mod-parts z d h =
     let q = floorDiv z d in
     let s = rw (floor-is z h) at (add-parts (q *ℤ pos d) (pos (floorMod z d))) in
     omega (arith, up-mul q d, dn-mul q d)
-
--- a quotient fits where the dividend does
-pub floor-fits : (w : Width) (z : ℤ) {d : ℕ} → 0 < d → SFits w z → SFits w (floorDiv z d)
-floor-fits w (pos n) {d} h f = rw (div-pos n h) (record { sfits = lt-of-le-of-lt (div-le-self n d) (f .sfits) })
-floor-fits w (negsuc n) {d} h f = rw (div-neg n h) (record { sfits = lt-of-le-of-lt (div-le-self n d) (f .sfits) })
 
 -- by the sign of z, from what division of `fold z` gives
 pub div-below : (z : ℤ) {d : ℕ} → 0 < d → ltZ z (pos 0) ≡ true → floorDiv z d ≡ negsuc (fold z / d)

@@ -3,13 +3,12 @@
 -- Assumes nothing.
 use mathlib.Core.Path.{_≡_, refl, sym, ap, _∙_, subst}
 use mathlib.Core.Bool.{Bool, true, false, cond}
-use mathlib.Core.Logic.{_⊎_, inl, inr}
 use Prim.Native.Nat.{ℕ, zero, suc, _+_, _-_, _*_, _^_, _≤_, _<_}
 use native.Mathlib.Nat.{zero-mul}
 use native.Mathlib.Omega.{arith}
 use lib.Dec.{T, ltb}
 use lib.IntN.{ℤ, pos, negsuc, sucℤ, negℤ, natAbs, _+ℤ_, _-ℤ_, _*ℤ_}
-use lib.Signed.{_≤ℤ_, _<ℤ_, ltZ, leZ, nonNeg}
+use lib.Signed.{_≤ℤ_, ltZ, leZ}
 use borrow.Author.Tests.{ltb-true, ltb-false, leb-true, leb-false}
 use mir.Syntax.{Width}
 use mir.Val.{SFits, hbits, toZ, ofZ}
@@ -22,11 +21,6 @@ up (negsuc n) = 0
 unfoldable pub dn : ℤ → ℕ
 dn (pos n) = 0
 dn (negsuc n) = suc n
-
-pub one-zero : (z : ℤ) → (up z ≡ 0) ⊎ (dn z ≡ 0)
-unfolding up dn
-one-zero (pos n) = inr refl
-one-zero (negsuc n) = inl refl
 
 pub T-true : (t : Bool) → T t → t ≡ true
 T-true true h = refl
@@ -134,11 +128,6 @@ unfolding up dn
 abs-parts (pos n) = omega arith
 abs-parts (negsuc n) = omega arith
 
-pub nonNeg-by : (z : ℤ) → dn z ≤ up z → T (nonNeg z)
-unfolding up dn
-nonNeg-by (pos n) h = tt
-nonNeg-by (negsuc n) h = omega arith
-
 -- the tests' values, from the parts
 module _ (a b : ℤ) where
   lt-true-at : (t : Bool) → ltZ a b ≡ t → up a + dn b < up b + dn a → ltZ a b ≡ true
@@ -172,9 +161,6 @@ module _ (a b : ℤ) where
   -- a range in a contract
   pub ≤ℤ-parts : a ≤ℤ b → up a + dn b ≤ up b + dn a
   ≤ℤ-parts h = le-yes a b (T-true (leZ a b) (h .le))
-
-  pub <ℤ-parts : a <ℤ b → up a + dn b < up b + dn a
-  <ℤ-parts h = lt-yes a b (T-true (ltZ a b) (h .lt))
 
 -- two numbers with the same bits, as `==` compares them
 pub bits-eq : (w : Width) (a b : ℤ) → SFits w a → SFits w b → ofZ w a ≡ ofZ w b → a ≡ b

@@ -1,6 +1,6 @@
 -- A signed 64-bit number, read back from its bits and cast to an unsigned one. Assumes nothing.
 use mathlib.Core.Path.{_≡_, refl, sym, ap, subst, _∙_}
-use Prim.Native.Nat.{ℕ, _+_, _^_, _≤_, _<_}
+use Prim.Native.Nat.{ℕ, _^_, _≤_, _<_}
 use native.Mathlib.Omega.{arith}
 use borrow.Author.Tests.{eq-eqb, ne-eqb, eqb-true}
 use lib.Dec.{T}
@@ -11,11 +11,7 @@ use mir.Syntax.{w64}
 use mir.Val.{SFits, Fits, toZ, ofZ}
 use mir.Facts.{toZ-ofZ}
 use Rattle.whole.specs.Compare.{isNumber, same}
-use Rattle.whole.proofs.Parts.{up, dn, sfits-by}
-
--- a number between -2^63 and 2^63, by bounds on its parts
-pub fits-in : (z : ℤ) (m n : ℕ) → dn z ≤ up z + m → up z ≤ dn z + n → m ≤ 2 ^ 62 → n ≤ 2 ^ 62 → SFits w64 z
-fits-in z m n h k a b = sfits-by w64 z (omega arith) (omega arith)
+use Rattle.whole.proofs.Parts.{up, dn}
 
 -- what a call gave is read back as what it ensures
 pub back : (z v : ℤ) → mag z < 2 ^ 63 → z ≡ v → toZ w64 (ofZ w64 z) ≡ v

@@ -61,12 +61,6 @@ each zero f t k h = absurd (not-suc-le-zero h)
 each (suc n) f t zero h = first-of (f 0) (all n (λ k. f (suc k))) t
 each (suc n) f t (suc k) h = each n (λ k. f (suc k)) (second-of (f 0) (all n (λ k. f (suc k))) t) k (le-of-suc-le-suc h)
 
-pub each2 : (m n : ℕ) (f : ℕ → ℕ → Bool) → T (all m (λ i. all n (f i))) → (i k : ℕ) → i < m → k < n → T (f i k)
-each2 m n f t i k h g = each n (f i) (each m (λ i. all n (f i)) t i h) k g
-
-pub each3 : (l m n : ℕ) (f : ℕ → ℕ → ℕ → Bool) → T (all l (λ i. all m (λ j. all n (f i j)))) → (i j k : ℕ) → i < l → j < m → k < n → T (f i j k)
-each3 l m n f t i j k h g o = each2 m n (f i) (each l (λ i. all m (λ j. all n (f i j))) t i h) j k g o
-
 -- a test that every element of a list passes
 abbrev pub every : {A : Type 0} → (A → Bool) → List A → Bool
 every f [] = true
@@ -77,9 +71,3 @@ every-head f x xs t = first-of (f x) (every f xs) t
 
 pub every-tail : {A : Type 0} (f : A → Bool) (x : A) (xs : List A) → T (every f (x ∷ xs)) → T (every f xs)
 every-tail f x xs t = second-of (f x) (every f xs) t
-
--- and so does whatever stands at a place, if the default does
-pub every-at : {A : Type 0} (f : A → Bool) (xs : List A) (d : A) → T (every f xs) → T (f d) → (k : ℕ) → T (f (getD xs k d))
-every-at f [] d t u k = u
-every-at f (x ∷ xs) d t u zero = every-head f x xs t
-every-at f (x ∷ xs) d t u (suc k) = every-at f xs d (every-tail f x xs t) u k

@@ -4,13 +4,12 @@ use mathlib.Core.Path.{_≡_, sym, subst}
 use lib.Dec.{T}
 use mathlib.Core.Bool.{Bool, true, false}
 use borrow.Author.Needs.{needs}
-use lib.Signed.{_≤ℤ_}
 use Rattle.whole.proofs.Signed.{back}
 use Rattle.position.specs.Ranges.{eastings, northings}
 use Rattle.position.specs.Edges.{lowered, edge}
 use Rattle.position.proofs.Bounds.{east-bounded, north-bounded}
-use Rattle.position.proofs.Edges.{Between, inside, lowered-wide}
-use lib.IntN.{ℤ, pos, negsuc}
+use Rattle.position.proofs.Edges.{Between, Wide, inside, lowered-wide}
+use lib.IntN.{ℤ}
 use mir.Syntax.{w64}
 use mir.Val.{toZ, ofZ}
 use mir.Facts.{toZ-ofZ}
@@ -41,7 +40,7 @@ north c =
     let s = c .before .before .before .before in
     back _ _ (c .lowered-of2 .ok) (rw (toZ-ofZ (s .fits .northing), c .before .northings-of .ensures) at (c .lowered-of2 .ensures))
 
-utm-wide : (utm north : Bool) (n : ℤ) → utm ≡ true → Between (northings utm north) n → (negsuc 17999999999999 ≤ℤ lowered (northings utm north) n) × (lowered (northings utm north) n ≤ℤ pos 39000000000000)
+utm-wide : (utm north : Bool) (n : ℤ) → utm ≡ true → Between (northings utm north) n → Wide (lowered (northings utm north) n)
 utm-wide true north n e b = lowered-wide north n b
 utm-wide false north n e b = absurd (subst T (sym e) tt)
 

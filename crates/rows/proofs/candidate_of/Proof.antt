@@ -1,16 +1,15 @@
 -- `rows::candidate_of` meets its contract, by what `limits_of` and `floor_mod` ensure.
 -- Assumes nothing.
 use mathlib.Core.Path.{_≡_}
-use native.Mathlib.Omega.{arith}
 use native.Mathlib.Nat.{lt-trans}
 use borrow.Author.Needs.{needs}
-use lib.Dec.{lit<}
+use lib.Dec.{lit<, lit≤}
 use lib.IntN.{ℤ, pos, _+ℤ_, _-ℤ_}
 use mir.Syntax.{w64}
 use mir.Val.{SFits, toZ, ofZ}
 use mir.Facts.{toZ-ofZ, toZ-pos}
 use Rattle.whole.specs.Floor.{floorMod}
-use Rattle.whole.proofs.Floor.{floorMod-lt}
+use Rattle.whole.proofs.Small.{fits, remainder}
 use Rattle.rows.specs.Limits.{lowest}
 use Rattle.rows.specs.Direct.{base, candidate}
 use Rattle.rows.proofs.Back.{low-back, base-fits, gap-fits, candidate-fits}
@@ -48,7 +47,7 @@ rest c =
     rw (letter s, low l, toZ-ofZ (base-fits (s .args .band)), toZ-ofZ (gap-fits (s .args .band) (s .args .letter) (s .pre))) at (c .floor-mod .ensures)
 
 small : (z : ℤ) → SFits w64 (pos (floorMod z 20))
-small z = let h = floorMod-lt z {d = 20} (lit< tt) in record { sfits = omega arith }
+small z = fits (remainder z (lit< tt)) (lit≤ tt)
 
 cast-result : tie.Need-cast-result
 cast-result c = let s = c .before .before .before .before in rw (rest c) (small (pos (s .args .letter) -ℤ base (s .args .band)))
@@ -64,12 +63,12 @@ sum c =
 add-result : tie.Need-add-result
 add-result c =
     let s = c .before .before .before .before in
-    rw (sum c) (candidate-fits (s .args .band) (s .args .letter) (s .pre))
+    rw (sum c) (candidate-fits (s .args .band) (s .args .letter))
 
 returns : tie.Need-returns
 returns c =
     let s = c .before .before .before .before in
-    rw (sum c) (toZ-ofZ (candidate-fits (s .args .band) (s .args .letter) (s .pre)))
+    rw (sum c) (toZ-ofZ (candidate-fits (s .args .band) (s .args .letter)))
 
 pub candidate-of-spec : {M : Type 1} → statement M
 candidate-of-spec = tie.close (tie.spec limits-of-requires sub-base cast-floor-mod sub-floor-mod floor-mod-requires cast-result add-result returns)

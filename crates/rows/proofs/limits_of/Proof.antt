@@ -12,18 +12,18 @@ use lib.Signed.{ltZ}
 use Rattle.whole.proofs.Parts.{up, dn, eq-by, lt-yes, lt-no, add-parts, sub-parts}
 use Rattle.whole.proofs.Signed.{is-count}
 use Rattle.whole.proofs.Table.{row}
-use Rattle.rows.specs.Limits.{limitsOf, none}
+use Rattle.rows.specs.Limits.{limitsOf, noRows}
 use Rattle.rows.proofs.Near.{past}
 use Rattle.rows.proofs.limits_of.Statement.{statement}
 use Rattle.rows.proofs.limits_of.Tie as tie
 
 -- outside -10 to 9 there are no limits
-below : (b : ℤ) → ltZ b (negsuc 9) ≡ true → none ≡ limitsOf b
+below : (b : ℤ) → ltZ b (negsuc 9) ≡ true → noRows ≡ limitsOf b
 unfolding up dn
 below (pos n) t = absurd (omega (arith, lt-yes (pos n) (negsuc 9) t))
 below (negsuc n) t = let h = lt-yes (negsuc n) (negsuc 9) t in sym (past n (omega arith) .1)
 
-above : (b : ℤ) → ltZ (pos 9) b ≡ true → none ≡ limitsOf b
+above : (b : ℤ) → ltZ (pos 9) b ≡ true → noRows ≡ limitsOf b
 unfolding up dn
 above (pos n) t = let h = lt-yes (pos 9) (pos n) t in sym (past n (omega arith) .0)
 above (negsuc n) t = absurd (omega (arith, lt-yes (pos 9) (negsuc n) t))

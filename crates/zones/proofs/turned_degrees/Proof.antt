@@ -3,12 +3,11 @@
 use mathlib.Core.Path.{_≡_}
 use borrow.Author.Needs.{needs}
 use Rattle.whole.proofs.Signed.{back}
-use native.Mathlib.Omega.{arith}
-use lib.Dec.{lit<}
+use lib.Dec.{lit<, lit≤}
 use Rattle.whole.specs.Floor.{floorMod}
-use Rattle.whole.proofs.Floor.{floorMod-lt}
+use Rattle.whole.proofs.Small.{fits, remainder}
 use Rattle.zones.specs.Zones.{degrees, turned}
-use Rattle.zones.proofs.Degrees.{sum-fits, turned-range, near-fits}
+use Rattle.zones.proofs.Degrees.{sum-fits, turned-range, turned-fits}
 use mir.Facts.{toZ-pos}
 use mir.Val.{SFits}
 use lib.IntN.{ℤ, pos, _+ℤ_, _-ℤ_}
@@ -27,14 +26,14 @@ rest c =
     rw (d-is d, toZ-ofZ (sum-fits (d .before .args .longitude) (d .before .fits .longitude))) at (c .floor-mod .ensures)
 
 small : (z : ℤ) → SFits w64 (pos (floorMod z 360))
-small z = let h = floorMod-lt z {d = 360} (lit< tt) in record { sfits = omega arith }
+small z = fits (remainder z (lit< tt)) (lit≤ tt)
 
 difference : (c : tie.After-floor-mod) → toZ w64 (c .floor-mod .result) -ℤ pos 180 ≡ turned (degrees (c .before .before .args .longitude))
 unfolding turned
 difference c = rw (rest c, toZ-pos w64 (small (degrees (c .before .before .args .longitude) +ℤ pos 180) .sfits))
 
-fits : (c : tie.After-floor-mod) → SFits w64 (turned (degrees (c .before .before .args .longitude)))
-fits c = let d = degrees (c .before .before .args .longitude) in near-fits (turned d) (turned-range d)
+turned-ok : (c : tie.After-floor-mod) → SFits w64 (turned (degrees (c .before .before .args .longitude)))
+turned-ok c = let d = degrees (c .before .before .args .longitude) in turned-fits (turned d) (turned-range d)
 
 degrees-of-requires : tie.Need-degrees-of-requires
 degrees-of-requires c κs = search needs
@@ -49,10 +48,10 @@ cast-result : tie.Need-cast-result
 cast-result c = rw (rest c) (small (degrees (c .before .before .args .longitude) +ℤ pos 180))
 
 sub-result : tie.Need-sub-result
-sub-result c = rw (difference c) (fits c)
+sub-result c = rw (difference c) (turned-ok c)
 
 returns : tie.Need-returns
-returns c = rw (difference c) (toZ-ofZ (fits c))
+returns c = rw (difference c) (toZ-ofZ (turned-ok c))
 
 pub turned-degrees-spec : {M : Type 1} → statement M
 turned-degrees-spec = tie.close (tie.spec degrees-of-requires add-floor-mod floor-mod-requires cast-result sub-result returns)
