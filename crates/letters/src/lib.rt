@@ -154,6 +154,7 @@ pub enum Grid {
     NoZone,
 }
 
+// UTM from 1 to 60, UPS at 0.
 pub fn grid_of(zone: i64) -> Grid
     ensures { λ r. ⌜ r ≡ gridOf zone ⌝ }
 {
@@ -169,6 +170,7 @@ pub fn grid_of(zone: i64) -> Grid
     Grid::Utm
 }
 
+// The bands of a zone.
 pub fn bands_of(zone: i64) -> LetterSet
     ensures { λ r. ⌜ r ≡ bandsOf zone ⌝ }
 {
@@ -190,6 +192,7 @@ fn utm_columns(third: u64) -> LetterSet
     }
 }
 
+// Each UPS band has columns of its own.
 fn ups_columns(band: u8) -> LetterSet
     ensures { λ r. ⌜ r ≡ upsColumns band ⌝ }
 {
@@ -202,6 +205,7 @@ fn ups_columns(band: u8) -> LetterSet
     }
 }
 
+// The columns of a UTM zone, or of a UPS band at zone 0.
 pub fn columns_of(zone: i64, band: u8) -> LetterSet
     ensures { λ r. ⌜ r ≡ columnsOf zone band ⌝ }
 {
@@ -212,6 +216,7 @@ pub fn columns_of(zone: i64, band: u8) -> LetterSet
     }
 }
 
+// The rows of a UTM zone, or of a UPS hemisphere at zone 0.
 pub fn rows_of(zone: i64, north: bool) -> LetterSet
     ensures { λ r. ⌜ r ≡ rowsOf zone north ⌝ }
 {

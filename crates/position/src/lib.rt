@@ -2,6 +2,7 @@
 use letters::Grid;
 ghost use mathlib.Core.Path.{_≡_};
 ghost use Prim.Native.Nat.{_<_, _^_};
+ghost use mathlib.Core.Bool.{true, false};
 ghost use lib.IntN.{pos, negsuc};
 ghost use mir.Syntax.{w64};
 ghost use mir.Val.{SFits};
@@ -11,8 +12,10 @@ ghost use Rattle.position.specs.Edges.{lowered, sideOf, edge, mgrsInside
 ghost use Rattle.position.specs.Squares.{halfOf, sideLength, centreOf, cornerOf, southWest};
 ghost use Rattle.position.specs.Metres.{exact, metresOf, metresAt};
 
-// Half micrometres in a tile of 100 km.
+// Half micrometres in a tile of 100 km, as a coordinate and as a count.
 const TILE: i64 = 200_000_000_000;
+
+const TILE_UNITS: u64 = 200_000_000_000;
 
 // The northing at which the south ends, and by which the hemispheres are shifted: 100 tiles.
 const SHIFT: i64 = 20_000_000_000_000;
@@ -33,6 +36,7 @@ struct Ends {
     pub high: i64,
 }
 
+// The eastings of UTM or of a UPS hemisphere.
 fn eastings_of(utm: bool, north: bool) -> Ends
     ensures { λ r. ⌜ r ≡ eastings utm north ⌝ }
 {
@@ -54,6 +58,7 @@ fn eastings_of(utm: bool, north: bool) -> Ends
     }
 }
 
+// The northings; those of UPS are its eastings again.
 fn northings_of(utm: bool, north: bool) -> Ends
     ensures { λ r. ⌜ r ≡ northings utm north ⌝ }
 {
@@ -151,26 +156,31 @@ fn lowered_of(x: i64, ends: Ends) -> i64
     x
 }
 
-// The hemisphere that a UTM northing lies in.
-fn side_of(north: bool, easting: i64, northing: i64) -> Point
+// A northing of the UTM north: below 0 it lies in the south.
+fn northern(easting: i64, northing: i64) -> Point
     requires { ⌜ (tiles (negsuc 89) ≤ℤ northing) × (northing ≤ℤ tiles (pos 195)) ⌝ }
-    ensures { λ r. ⌜ r ≡ sideOf north easting northing ⌝ }
+    ensures { λ r. ⌜ r ≡ sideOf true easting northing ⌝ }
 {
-    if north {
-        if northing < 0 {
-            let northing = northing + SHIFT;
-            return Point {
-                north: false,
-                easting,
-                northing,
-            };
-        }
+    if northing < 0 {
+        let northing = northing + SHIFT;
         return Point {
-            north: true,
+            north: false,
             easting,
             northing,
         };
     }
+    Point {
+        north: true,
+        easting,
+        northing,
+    }
+}
+
+// A northing of the UTM south: from 100 tiles up it lies at the equator or in the north.
+fn southern(easting: i64, northing: i64) -> Point
+    requires { ⌜ (tiles (negsuc 89) ≤ℤ northing) × (northing ≤ℤ tiles (pos 195)) ⌝ }
+    ensures { λ r. ⌜ r ≡ sideOf false easting northing ⌝ }
+{
     if northing < SHIFT {
         return Point {
             north: false,
@@ -202,7 +212,10 @@ fn edge_of(utm: bool, north: bool, easting: i64, northing: i64) -> Point
     let easting = lowered_of(easting, eastings_of(utm, north));
     let northing = lowered_of(northing, northings_of(utm, north));
     if utm {
-        return side_of(north, easting, northing);
+        if north {
+            return northern(easting, northing);
+        }
+        return southern(easting, northing);
     }
     Point {
         north,
@@ -252,6 +265,7 @@ pub fn half_of(p: i64) -> u64
     whole::power_of_ten(11 - n)
 }
 
+// The side of a square of p digits.
 pub fn side_length(p: i64) -> u64
     ensures { λ r. ⌜ r ≡ sideLength p ⌝ }
 {
@@ -273,7 +287,7 @@ pub fn centre_of(p: i64, tile: u8, digits: u64) -> i64
         return 0;
     }
     let half = whole::power_of_ten(11 - n);
-    let units = tile as u64 * 200_000_000_000 + (2 * digits + 1) * half;
+    let units = tile as u64 * TILE_UNITS + (2 * digits + 1) * half;
     units as i64
 }
 
@@ -304,6 +318,7 @@ pub fn south_west(q: Position) -> Position
     }
 }
 
+// A point in metres.
 pub struct Metres {
     pub easting: f64,
     pub northing: f64,
@@ -333,6 +348,7 @@ fn axis(units: i64) -> f64
     units as f64 / 2_000_000.0
 }
 
+// A point's counts in metres.
 pub fn metres_of(easting: i64, northing: i64) -> MetresAnswer
     ensures { λ r. ⌜ r ≡ metresAt easting northing ⌝ }
 {

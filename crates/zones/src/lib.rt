@@ -4,6 +4,7 @@ ghost use lib.IntN.{pos, negsuc};
 ghost use lib.Signed.{_≤ℤ_};
 ghost use Rattle.zones.specs.Zones.{degrees, bandOf, turned, plain, norway, arctic, svalbard, zoneAt, zoneOf};
 
+// Whole degrees, rounded down.
 fn degrees_of(billionths: i64) -> i64
     ensures { λ r. ⌜ r ≡ degrees billionths ⌝ }
 {
@@ -32,6 +33,7 @@ fn turned_degrees(longitude: i64) -> i64
     whole::floor_mod(d + 180, 360) as i64 - 180
 }
 
+// Six degrees a zone, zone 1 from -180.
 fn plain_zone(d: i64) -> i64
     requires { ⌜ (negsuc 179 ≤ℤ d) × (d ≤ℤ pos 179) ⌝ }
     ensures { λ r. ⌜ r ≡ plain d ⌝ }
@@ -39,6 +41,7 @@ fn plain_zone(d: i64) -> i64
     whole::floor_div(d + 186, 6)
 }
 
+// Twelve degrees a zone around Svalbard, odd zones only.
 fn svalbard_zone(d: i64) -> i64
     requires { ⌜ (negsuc 179 ≤ℤ d) × (d ≤ℤ pos 179) ⌝ }
     ensures { λ r. ⌜ r ≡ svalbard d ⌝ }
@@ -70,6 +73,7 @@ fn is_arctic(band: i64, d: i64) -> bool
     false
 }
 
+// The zone by band and turned degrees, with the two exceptions.
 fn zone_at(band: i64, d: i64) -> i64
     requires { ⌜ (negsuc 179 ≤ℤ d) × (d ≤ℤ pos 179) ⌝ }
     ensures { λ r. ⌜ r ≡ zoneAt band d ⌝ }
@@ -90,6 +94,7 @@ pub enum ZoneAnswer {
     Refused(u64),
 }
 
+// The zone of a point: UTM from -80 to below 84 degrees, UPS beyond, 22 outside -90..90.
 pub fn standard_zone(latitude: i64, longitude: i64) -> ZoneAnswer
     ensures { λ r. ⌜ r ≡ zoneOf latitude longitude ⌝ }
 {

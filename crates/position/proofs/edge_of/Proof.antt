@@ -1,4 +1,4 @@
--- `position::edge_of` meets its contract, by what `lowered_of` and `side_of` ensure.
+-- `position::edge_of` meets its contract, by what `lowered_of`, `northern` and `southern` ensure.
 -- Assumes nothing.
 use mathlib.Core.Path.{_≡_, sym, subst}
 use lib.Dec.{T}
@@ -44,27 +44,53 @@ utm-wide : (utm north : Bool) (n : ℤ) → utm ≡ true → Between (northings 
 utm-wide true north n e b = lowered-wide north n b
 utm-wide false north n e b = absurd (subst T (sym e) tt)
 
-side-of-requires : tie.Need-side-of-requires
-side-of-requires c κs =
+ready : (c : tie.Then1) → Wide (toZ w64 (ofZ w64 (c .before .lowered-of2 .result)))
+ready c =
     let l = c .before in
     let s = l .before .before .before .before in
     let b = inside (s .args .utm) (s .args .north) (s .args .easting) (s .args .northing) (s .pre) .1 in
     rw (north l) (utm-wide (s .args .utm) (s .args .north) (s .args .northing) (c .if1 .taken) b)
 
+northern-requires : tie.Need-northern-requires
+northern-requires c κs = ready (c .before)
+
 returns : tie.Need-returns
 unfolding edge
 returns c =
-    let t = c .before in
+    let n = c .before in
+    let t = n .before in
     let l = t .before in
-    let s = l .before .before .before .before in
-    let e = rw (east (l .before .before), north l) at (c .side-of .ensures) in
-    rw (e, t .if1 .taken)
+    let e = rw (east (l .before .before), north l) at (c .northern .ensures) in
+    rw (e, t .if1 .taken, n .if2 .taken)
+
+southern-requires : tie.Need-southern-requires
+southern-requires c κs = ready (c .before)
 
 returns-2 : tie.Need-returns-2
 unfolding edge
 returns-2 c =
+    let n = c .before in
+    let t = n .before in
+    let l = t .before in
+    let e = rw (east (l .before .before), north l) at (c .southern .ensures) in
+    rw (e, t .if1 .taken, n .if2 .left)
+
+returns-3 : tie.Need-returns-3
+unfolding edge
+returns-3 c =
     let l = c .before in
     rw (east (l .before .before), north l, c .if1 .left)
 
 pub edge-of-spec : {M : Type 1} → statement M
-edge-of-spec = tie.close (tie.spec eastings-of-requires lowered-of-requires northings-of-requires lowered-of-requires-2 side-of-requires returns returns-2)
+edge-of-spec =
+    tie.close
+    (tie.spec
+    eastings-of-requires
+    lowered-of-requires
+    northings-of-requires
+    lowered-of-requires-2
+    northern-requires
+    returns
+    southern-requires
+    returns-2
+    returns-3)
