@@ -140,6 +140,26 @@ def metres(easting, northing, x, y):
     return start + ("equal" if exact == [x, y] else "differ")
 
 
+def corner(p, centre):
+    half = 10 ** (11 - p) if 0 <= p <= 11 else 0
+    return f"corner {p} {centre} {half} {centre - half if centre >= half else 0}"
+
+
+def south_west(zone, north, band, p, easting, northing):
+    half = 10 ** (11 - p) if 0 <= p <= 11 else 0
+    return f"south-west {zone} {'N' if north else 'S'} {band} {p} {easting - half} {northing - half}"
+
+
+def floor(x, d):
+    quotient, remainder = divmod(x, d) if d else (0, 0)
+    return f"floor {x} {d} {fold(x)} {quotient} {remainder}"
+
+
+def capital(b):
+    b = ord(b) if isinstance(b, str) else b
+    return f"capital {b} {b - 32 if ord('a') <= b <= ord('z') else b}"
+
+
 def number(word):
     return {"true": True, "false": False}.get(word) if word in ("true", "false") else eval(word)
 
@@ -159,7 +179,17 @@ def line(name, words):
         zone, north, easting, northing = args
         start = f"{'mgrs' if name == 'moved' else 'utm'} {zone} {'N' if north else 'S'} {easting} {northing} "
         return start + check(*args, 0 if name == "moved" else 1)
-    return {"square": square, "axis": axis, "metres": metres}[name](*args)
+    if name == "ten":
+        return f"ten {args[0]} {10 ** args[0] if args[0] <= 11 else 0}"
+    if name == "side":
+        return f"side {args[0]} {'N' if args[0] in 'NPQRSTUVWXYZ' else 'S'}{' E' if args[0] in 'BZ' else ''}"
+    if name == "allowed":
+        b, c, r = args
+        return f"allowed {b} {c} {r} {'yes' if -10 <= b <= 9 and c <= 7 and allowed(b, c, r) else 'no'}"
+    if name == "letter":
+        return f"letter {args[0]} {args[1]} {(args[1] + args[0]) % 20}"
+    calls = {"square": square, "axis": axis, "metres": metres, "corner": corner, "south_west": south_west}
+    return {**calls, "floor": floor, "folded": capital}[name](*args)
 
 
 source = open("crates/ground/src/main.rt").read()

@@ -5,6 +5,7 @@ use letters::Place;
 use libc::STDOUT_FILENO;
 use position::MetresAnswer;
 use position::MgrsCheck;
+use position::Position;
 use position::UtmCheck;
 use rows::RowAnswer;
 use zones::ZoneAnswer;
@@ -34,6 +35,58 @@ fn hemisphere(north: bool) {
         return;
     }
     say(b" S");
+}
+
+// A power of ten.
+fn ten(k: usize) {
+    say(b"ten");
+    number(k as u64);
+    number(whole::power_of_ten(k));
+    say(b"\n");
+}
+
+fn low_powers() {
+    ten(0);
+    ten(1);
+    ten(2);
+    ten(3);
+    ten(4);
+    ten(5);
+    ten(6);
+}
+
+fn high_powers() {
+    ten(7);
+    ten(8);
+    ten(9);
+    ten(10);
+    ten(11);
+    ten(12);
+}
+
+// A number folded, and its quotient and remainder, rounded down.
+fn floor(x: i64, d: u64) {
+    say(b"floor");
+    signed(x);
+    number(d);
+    number(whole::fold_of(x));
+    signed(whole::floor_div(x, d));
+    number(whole::floor_mod(x, d));
+    say(b"\n");
+}
+
+fn floors() {
+    floor(7, 2);
+    floor(-7, 2);
+    floor(-8, 2);
+    floor(-1, 20);
+    floor(-90, 20);
+    floor(0, 5);
+    floor(5, 0);
+    floor(-5, 0);
+    floor(-9_223_372_036_854_775_807 - 1, 1);
+    floor(-9_223_372_036_854_775_807 - 1, 18_446_744_073_709_551_615);
+    floor(9_223_372_036_854_775_807, 18_446_744_073_709_551_615);
 }
 
 // The lowest and the highest row of a band.
@@ -140,6 +193,48 @@ fn ups_sets() {
     letter_set(letters::rows_of(0, true));
 }
 
+// A byte as a capital.
+fn folded(b: u8) {
+    say(b"capital");
+    number(b as u64);
+    number(letters::capital(b) as u64);
+    say(b"\n");
+}
+
+fn capitals() {
+    folded(b'a');
+    folded(b'z');
+    folded(b'm');
+    folded(b'Q');
+    folded(96);
+    folded(123);
+    folded(0);
+    folded(255);
+}
+
+// The hemisphere of a band, and whether it is a UPS band of the east.
+fn side(band: u8) {
+    say(b"side ");
+    say(&[band]);
+    hemisphere(letters::is_north(band));
+    if letters::is_east(band) {
+        say(b" E");
+    }
+    say(b"\n");
+}
+
+fn sides() {
+    side(b'A');
+    side(b'B');
+    side(b'Y');
+    side(b'Z');
+    side(b'C');
+    side(b'M');
+    side(b'N');
+    side(b'P');
+    side(b'X');
+}
+
 // The place of a letter, for the rows below: 99 for none.
 fn place(set: LetterSet, letter: u8) -> usize {
     match letters::place_of(set, letters::capital(letter)) {
@@ -215,6 +310,57 @@ fn other_squares() {
     square(18, b'T', b'A', b'L');
     square(18, b'T', b'W', b'W');
     square(18, b'I', b'W', b'L');
+}
+
+// Whether a band and a column allow a row.
+fn allowed(band: i64, column: usize, row: i64) {
+    say(b"allowed");
+    signed(band);
+    number(column as u64);
+    signed(row);
+    if rows::is_allowed(band, column, row) {
+        say(b" yes\n");
+        return;
+    }
+    say(b" no\n");
+}
+
+fn allowed_rows() {
+    allowed(8, 2, 70);
+    allowed(8, 1, 70);
+    allowed(8, 2, -71);
+    allowed(-9, 2, -71);
+    allowed(-9, 2, 70);
+    allowed(8, 7, 75);
+    allowed(8, 8, 75);
+    allowed(-10, 0, -90);
+    allowed(-10, 0, -91);
+    allowed(9, 0, 94);
+    allowed(9, 0, 95);
+    allowed(10, 0, 0);
+}
+
+// The place of a row's letter at a shift.
+fn letter(shift: u64, row: i64) {
+    say(b"letter");
+    number(shift);
+    signed(row);
+    number(rows::letter_of(shift, row) as u64);
+    say(b"\n");
+}
+
+fn row_letters() {
+    letter(0, 0);
+    letter(0, -1);
+    letter(5, -1);
+    letter(5, 45);
+    letter(0, 70);
+    letter(0, -71);
+    letter(10, 0);
+    letter(15, 0);
+    letter(19, 3);
+    letter(25, 0);
+    letter(18_446_744_073_709_551_615, -9_223_372_036_854_775_807 - 1);
 }
 
 fn band(latitude: i64) {
@@ -406,6 +552,57 @@ fn axes() {
     axis(12, 5, 0);
 }
 
+// The corner of a square around a centre.
+fn corner(p: i64, centre: i64) {
+    say(b"corner");
+    signed(p);
+    signed(centre);
+    number(position::half_of(p));
+    signed(position::corner_of(p, centre));
+    say(b"\n");
+}
+
+fn corners() {
+    corner(0, 100_000_000_000);
+    corner(0, 99_999_999_999);
+    corner(0, 1);
+    corner(5, 1_206_291_000_000);
+    corner(11, 1);
+    corner(4, -1);
+    corner(-1, 5);
+    corner(-1, -5);
+    corner(12, 7);
+    corner(0, -9_223_372_036_854_775_807 - 1);
+}
+
+// A position at the south-west corner of its square.
+fn south_west(zone: i64, north: bool, band: u8, p: i64, easting: i64, northing: i64) {
+    let q = position::south_west(Position {
+        zone,
+        north,
+        band,
+        p,
+        easting,
+        northing,
+    });
+    say(b"south-west");
+    signed(q.zone);
+    hemisphere(q.north);
+    say(b" ");
+    say(&[q.band]);
+    signed(q.p);
+    signed(q.easting);
+    signed(q.northing);
+    say(b"\n");
+}
+
+fn south_wests() {
+    south_west(18, true, b'T', 6, 1_171_328_300_000, 9_022_630_900_000);
+    south_west(18, true, b'T', -1, 1_000_000_000_000, 9_800_000_000_000);
+    south_west(5, false, b'M', 0, 1_100_000_000_000, 19_900_000_000_000);
+    south_west(0, true, b'Y', 5, 3_522_869_000_000, 4_762_293_000_000);
+}
+
 // Whether the metres of two counts are these two, to the last bit.
 fn metres(easting: i64, northing: i64, x: f64, y: f64) {
     say(b"metres");
@@ -457,10 +654,17 @@ fn metre_examples() {
 }
 
 fn main() {
+    low_powers();
+    high_powers();
+    floors();
     southern_limits();
     northern_limits();
     utm_sets();
     ups_sets();
+    capitals();
+    sides();
+    allowed_rows();
+    row_letters();
     northern_squares();
     southern_squares();
     other_squares();
@@ -473,5 +677,7 @@ fn main() {
     ups_edges();
     utm_ranges();
     axes();
+    corners();
+    south_wests();
     metre_examples();
 }
