@@ -188,6 +188,14 @@ def line(name, words):
         return f"allowed {b} {c} {r} {'yes' if -10 <= b <= 9 and c <= 7 and allowed(b, c, r) else 'no'}"
     if name == "letter":
         return f"letter {args[0]} {args[1]} {(args[1] + args[0]) % 20}"
+    if name == "grid":
+        return f"grid {args[0]} {'utm' if 1 <= args[0] <= 60 else 'ups' if args[0] == 0 else 'none'}"
+    if name == "shift":
+        return f"shift {args[0]} {5 if args[0] % 2 == 0 else 0}"
+    if name == "odd":
+        b, c, letter = args
+        row = resolve(0, b, c, letter) if -10 <= b <= 9 and c <= 7 else None
+        return f"odd {b} {c} {letter} {'none' if row is None else row}"
     calls = {"square": square, "axis": axis, "metres": metres, "corner": corner, "south_west": south_west}
     return {**calls, "floor": floor, "folded": capital}[name](*args)
 

@@ -1,5 +1,6 @@
 // Runs the worked examples of document 01 that belong to this layer and prints each with its answer.
 // The gate holds what is printed to the file stdout, which was made from document 01 and not from this program.
+use letters::Grid;
 use letters::LetterSet;
 use letters::Place;
 use libc::STDOUT_FILENO;
@@ -125,6 +126,45 @@ fn northern_limits() {
     limits(8);
     limits(9);
     limits(10);
+}
+
+// The grid of a zone, and the shift of its row letters.
+fn grid(zone: i64) {
+    say(b"grid");
+    signed(zone);
+    match letters::grid_of(zone) {
+        Grid::Utm => say(b" utm"),
+        Grid::Ups => say(b" ups"),
+        Grid::NoZone => say(b" none"),
+    }
+    say(b"\n");
+}
+
+fn grids() {
+    grid(-1);
+    grid(0);
+    grid(1);
+    grid(60);
+    grid(61);
+    grid(-9_223_372_036_854_775_807 - 1);
+    grid(9_223_372_036_854_775_807);
+}
+
+fn shift(zone: i64) {
+    say(b"shift");
+    signed(zone);
+    number(rows::shift_of(zone));
+    say(b"\n");
+}
+
+fn shifts() {
+    shift(1);
+    shift(2);
+    shift(18);
+    shift(31);
+    shift(60);
+    shift(-1);
+    shift(-2);
 }
 
 // The letters of a set in their order.
@@ -256,6 +296,30 @@ fn band_at(k: usize) -> i64
     requires { ⌜ k < 20 ⌝ }
 {
     k as i64 - 10
+}
+
+// The row of a letter in an odd zone, by its place.
+fn odd(band: i64, column: usize, letter: usize) {
+    say(b"odd");
+    signed(band);
+    number(column as u64);
+    number(letter as u64);
+    answer(rows::utm_row(band, column, letter));
+}
+
+fn odd_rows() {
+    odd(8, 2, 10);
+    odd(8, 1, 10);
+    odd(-9, 2, 9);
+    odd(8, 2, 9);
+    odd(0, 0, 0);
+    odd(-1, 7, 19);
+    odd(9, 0, 14);
+    odd(-10, 0, 10);
+    odd(8, 8, 15);
+    odd(8, 2, 20);
+    odd(10, 0, 0);
+    odd(-11, 0, 0);
 }
 
 // The row of a 100 km square, or that there is none.
@@ -659,12 +723,15 @@ fn main() {
     floors();
     southern_limits();
     northern_limits();
+    grids();
     utm_sets();
     ups_sets();
     capitals();
     sides();
     allowed_rows();
     row_letters();
+    shifts();
+    odd_rows();
     northern_squares();
     southern_squares();
     other_squares();
@@ -676,8 +743,8 @@ fn main() {
     utm_refusals();
     ups_edges();
     utm_ranges();
-    axes();
     corners();
+    axes();
     south_wests();
     metre_examples();
 }

@@ -11,6 +11,7 @@ use mir.Facts.{and-yes}
 use borrow.Author.Tests.{eqb-true, ne-eqb}
 use lib.Dec.{T, eqb, leb, leb→le, eqb→eq}
 use lib.ListN.{length, getD, List·getD-eq-default}
+use Rattle.whole.proofs.Parts.{clash}
 use Rattle.whole.proofs.Table.{all, each, every, every-head, every-tail}
 use Rattle.letters.specs.declared.LetterSet.{LetterSet}
 use Rattle.letters.specs.declared.Place.{Place}
@@ -33,7 +34,7 @@ placed-by i y ys x j later false q e =
 
 placed : (i : ℕ) (set : List ℕ) (x j : ℕ) → placeFrom i set x ≡ At j → Placed i set x j
 unfolding placeFrom
-placed i [] x j e = let z : _≡_ {A = ℕ} 0 1 = cc in absurd (omega arith)
+placed i [] x j e = clash (cc)
 placed i (y ∷ ys) x j e = placed-by i y ys x j (placed (suc i) ys x j) (eqb y x) refl e
 
 abbrev pub sizeOf : LetterSet → ℕ

@@ -9,12 +9,15 @@ use lib.Signed.{ltZ, _≤ℤ_}
 use mir.Syntax.{w64}
 use mir.Val.{SFits}
 use Rattle.whole.specs.Compare.{same}
-use Rattle.whole.proofs.Parts.{up, dn, lt-no, add-parts, sub-parts, ≤ℤ-parts}
+use Rattle.whole.proofs.Parts.{up, dn, clash, lt-no, add-parts, sub-parts, ≤ℤ-parts}
 use Rattle.whole.proofs.Signed.{same→eq}
 use Rattle.whole.proofs.Small.{Small, fits, computed, count, between, sum, difference, at-least, at-most}
 use Rattle.position.specs.declared.Ends.{Ends}
-use Rattle.position.specs.declared.OutAxis.the-variants.{Neither, Easting, Northing}
-use Rattle.position.specs.Ranges.{tiles, eastings, northings, moved, outOf, outAxis}
+use Rattle.letters.specs.declared.Grid.{Grid}
+use Rattle.letters.specs.declared.Grid.the-variants.{Utm, Ups, NoZone}
+use Rattle.letters.specs.Sets.{gridOf, byGrid}
+use Rattle.position.specs.declared.Verdict.the-variants.{Inside, Outside}
+use Rattle.position.specs.Ranges.{tiles, eastings, northings, moved, outOf, judged, verdict}
 use Rattle.position.specs.Edges.{lowered}
 use Rattle.position.proofs.Bounds.{north-bounded}
 
@@ -37,24 +40,39 @@ lies : (ends : Ends) (x : ℤ) → outOf (moved (pos 0) ends) x ≡ false → Be
 unfolding outOf
 lies ends x e = lies-by ends x (ltZ x (ends .low -ℤ pos 0)) (ltZ (ends .high +ℤ pos 0) x) refl refl e
 
-not-east : {X : Type 0} → Easting ≡ Neither → X
-not-east e = let z : _≡_ {A = ℕ} 0 1 = cc in absurd (omega arith)
-
-not-north : {X : Type 0} → Northing ≡ Neither → X
-not-north e = let z : _≡_ {A = ℕ} 0 1 = cc in absurd (omega arith)
-
 module _ (utm north : Bool) (e n : ℤ) where
-  both-by : (a b : Bool) → cond a Easting (cond b Northing Neither) ≡ Neither → (a ≡ false) × (b ≡ false)
-  both-by true b h = not-east h
-  both-by false true h = not-north h
+  both-by : (a b : Bool) → cond a (Outside 16) (cond b (Outside 17) (Inside utm)) ≡ Inside utm → (a ≡ false) × (b ≡ false)
+  both-by true b h = clash (cc)
+  both-by false true h = clash (cc)
   both-by false false h = (refl, refl)
 
-  -- neither axis is out: both lie between their ends
-  pub inside : outAxis (pos 0) utm north e n ≡ Neither → Between (eastings utm north) e × Between (northings utm north) n
-  unfolding outAxis
+  -- a point that is judged to be inside lies between the ends on both axes
+  pub inside : judged (pos 0) utm north e n ≡ Inside utm → Between (eastings utm north) e × Between (northings utm north) n
+  unfolding judged
   inside h =
       let s = both-by (outOf (moved (pos 0) (eastings utm north)) e) (outOf (moved (pos 0) (northings utm north)) n) h in
       (lies (eastings utm north) e (s .0), lies (northings utm north) n (s .1))
+
+  -- what is inside is inside its own grid
+  own-by : (t a b : Bool) → cond a (Outside 16) (cond b (Outside 17) (Inside t)) ≡ Inside utm → t ≡ utm
+  own-by t true b h = clash (cc)
+  own-by t false true h = clash (cc)
+  own-by t false false h = cc
+
+  own : (t : Bool) → judged (pos 0) t north e n ≡ Inside utm → judged (pos 0) utm north e n ≡ Inside utm
+  unfolding judged
+  own t h =
+      let k = own-by t (outOf (moved (pos 0) (eastings t north)) e) (outOf (moved (pos 0) (northings t north)) n) h in
+      subst (λ (u : Bool). judged (pos 0) u north e n ≡ Inside utm) k h
+
+  by-grid : (g : Grid) → byGrid g (judged (pos 0) true north e n) (judged (pos 0) false north e n) (Outside 14) ≡ Inside utm → judged (pos 0) utm north e n ≡ Inside utm
+  by-grid Utm h = own true h
+  by-grid Ups h = own false h
+  by-grid NoZone h = clash (cc)
+
+  pub own-grid : (zone : ℤ) → verdict (pos 0) zone north e n ≡ Inside utm → judged (pos 0) utm north e n ≡ Inside utm
+  unfolding verdict
+  own-grid zone h = by-grid (gridOf zone) h
 
 -- a UTM northing between its ends lies between -90 and 195 tiles, and so does it lowered
 abbrev pub Wide : ℤ → Type 0

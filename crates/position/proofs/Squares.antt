@@ -7,38 +7,34 @@ use native.Mathlib.Omega.{arith}
 use borrow.Author.Tests.{lt-ltb, le-ltb, le-leb, ltb-true, ltb-false, leb-true, eq-eqb, ne-eqb}
 use lib.Dec.{T, ltb, leb, eqb}
 use lib.IntN.{ℤ, pos, negsuc}
-use lib.Signed.{ltZ}
 use mir.Facts.{and-yes}
-use Rattle.whole.proofs.Parts.{up, dn, T-true, eq-by, lt-yes, lt-no, sub-parts}
+use Rattle.whole.proofs.Parts.{up, dn, clash, T-true, eq-by, sub-parts}
 use Rattle.whole.proofs.Powers.{ten-pos, ten-split, ten-le}
-use Rattle.position.specs.Squares.{halfOf, sideLength, numberOf, centre, centreOf, cornerOf, holds}
-
--- p as a count of digits
-pub record Digits (p : ℤ) : Type 0 where
-  pub count : ℕ
-  pub is : p ≡ pos count
-  pub most : count ≤ 11
-
-pub digits : (p : ℤ) → ltZ p (pos 0) ≡ false → ltZ (pos 11) p ≡ false → Digits p
-unfolding up dn
-digits (pos n) a b = record { count = n; is = refl; most = ltb-false 11 n b }
-digits (negsuc n) a b = absurd (omega (arith, lt-no (negsuc n) (pos 0) a))
+use Rattle.position.specs.Squares.{countOf, halfOf, sideLength, numberOf, centre, centreOf, cornerOf, holds}
 
 -- half a side, by p
 pub half-is : (n : ℕ) → n ≤ 11 → halfOf (pos n) ≡ 10 ^ (11 - n)
 unfolding halfOf
 half-is n h = rw (le-ltb 11 n h)
 
--- below 0 and above 11 there is no square
-pub below : (p : ℤ) → ltZ p (pos 0) ≡ true → (halfOf p ≡ 0) × ((t d : ℕ) → centreOf p t d ≡ 0)
-unfolding up dn halfOf centreOf
-below (pos n) h = absurd (omega (arith, lt-yes (pos n) (pos 0) h))
-below (negsuc n) h = (refl, λ t d. refl)
+-- p is its count of digits, or there is no square
+counted-by : (n : ℕ) (t : Bool) → ltb 11 n ≡ t → cond t 12 n ≤ 11 → n ≡ cond t 12 n
+counted-by n true e h = absurd (omega arith)
+counted-by n false e h = refl
 
-pub above : (p : ℤ) → ltZ (pos 11) p ≡ true → (halfOf p ≡ 0) × ((t d : ℕ) → centreOf p t d ≡ 0)
-unfolding up dn halfOf centreOf
-above (pos n) h = (rw h, λ t d. rw h)
-above (negsuc n) h = (refl, λ t d. refl)
+pub counted : (p : ℤ) → countOf p ≤ 11 → p ≡ pos (countOf p)
+unfolding countOf
+counted (pos n) h = ap pos (counted-by n (ltb 11 n) refl h)
+counted (negsuc n) h = absurd (omega arith)
+
+none-by : (n : ℕ) (t : Bool) → ltb 11 n ≡ t → 11 < cond t 12 n → t ≡ true
+none-by n true e h = refl
+none-by n false e h = absurd (omega (arith, ltb-false 11 n e))
+
+pub none : (p : ℤ) → 11 < countOf p → (halfOf p ≡ 0) × ((t d : ℕ) → centreOf p t d ≡ 0)
+unfolding countOf halfOf centreOf
+none (pos n) h = let e = none-by n (ltb 11 n) refl h in (rw e, λ t d. rw e)
+none (negsuc n) h = (refl, λ t d. refl)
 
 half-by : (n : ℕ) (t : Bool) → ltb 11 n ≡ t → cond t 0 (10 ^ (11 - n)) ≤ 100000000000
 half-by n true e = omega arith
@@ -126,7 +122,7 @@ module _ (p n : ℕ) (h : p ≤ 11) where
 
   test-is : (x s : ℕ) → 0 < s → (t : Bool) → (leb (n * s) x && ltb x (n * s + s)) ≡ t → t ≡ eqb (x / s) n
   test-is x s g true e = sym (eq-eqb (x / s) n (number-when x s e))
-  test-is x s g false e = sym (ne-eqb (x / s) n (λ q. let k : true ≡ false = sym (holds-when x s g q) ∙ e in let z : _≡_ {A = ℕ} 0 1 = cc in omega arith))
+  test-is x s g false e = sym (ne-eqb (x / s) n (λ q. let k : true ≡ false = sym (holds-when x s g q) ∙ e in clash (cc)))
 
   pub holds-is : (x : ℕ) → holds (pos p) (pos (centre p n)) (pos x) ≡ eqb (x / sideLength (pos p)) n
   unfolding holds

@@ -3,12 +3,13 @@ use mathlib.Core.Bool.{Bool, true, false, cond}
 use lib.IntN.{ℤ, pos, _+ℤ_, _-ℤ_}
 use lib.Signed.{ltZ, leZ}
 use Rattle.whole.specs.Compare.{same}
-use Rattle.letters.specs.Sets.{gridOf, byGrid}
 use Rattle.position.specs.declared.Ends.{Ends}
 use Rattle.position.specs.declared.Point.{Point}
 use Rattle.position.specs.declared.MgrsCheck.{MgrsCheck}
 use Rattle.position.specs.declared.MgrsCheck.the-variants.{Moved, Refused}
-use Rattle.position.specs.Ranges.{tiles, eastings, northings, outAxis, byAxis}
+use Rattle.position.specs.declared.Verdict.{Verdict}
+use Rattle.position.specs.declared.Verdict.the-variants.{Inside, Outside}
+use Rattle.position.specs.Ranges.{tiles, eastings, northings, verdict}
 
 -- "a value exactly on the upper end is first lowered by one unit."
 unfoldable pub lowered : Ends → ℤ → ℤ
@@ -32,10 +33,11 @@ edge utm north e n =
     let n′ = lowered (northings utm north) n in
     cond utm (sideOf north e′ n′) (point north e′ n′)
 
--- "lower end in, upper end by the edge rule": no margin, and the upper end is in, to be lowered.
-unfoldable pub mgrsInside : Bool → Bool → ℤ → ℤ → MgrsCheck
-mgrsInside utm north e n = byAxis (outAxis (pos 0) utm north e n) (Moved (edge utm north e n)) Refused
+abbrev pub movedBy : Bool → ℤ → ℤ → Verdict → MgrsCheck
+movedBy north e n (Inside utm) = Moved (edge utm north e n)
+movedBy north e n (Outside k) = Refused k
 
--- "MGRS range test: 14, 16, 17 by the ranges above." "14 zone not 0..60"
+-- "MGRS range test: 14, 16, 17 by the ranges above": "lower end in, upper end by the edge rule", so with no margin and
+-- the upper end in, to be lowered.
 unfoldable pub mgrsCheck : ℤ → Bool → ℤ → ℤ → MgrsCheck
-mgrsCheck zone north e n = byGrid (gridOf zone) (mgrsInside true north e n) (mgrsInside false north e n) (Refused 14)
+mgrsCheck zone north e n = movedBy north e n (verdict (pos 0) zone north e n)

@@ -1,14 +1,13 @@
 -- The ranges of eastings and northings, and the UTM range test: document 01, "Writing" and "Smaller services". Assumes nothing.
 use mathlib.Core.Bool.{Bool, true, false, cond}
-use Prim.Native.Nat.{ℕ}
 use lib.IntN.{ℤ, pos, negsuc, _+ℤ_, _-ℤ_, _*ℤ_}
 use lib.Signed.{ltZ}
 use Rattle.letters.specs.Sets.{gridOf, byGrid}
 use Rattle.position.specs.declared.Ends.{Ends}
-use Rattle.position.specs.declared.OutAxis.{OutAxis}
-use Rattle.position.specs.declared.OutAxis.the-variants.{Neither, Easting, Northing}
 use Rattle.position.specs.declared.UtmCheck.{UtmCheck}
 use Rattle.position.specs.declared.UtmCheck.the-variants.{InRange, Refused}
+use Rattle.position.specs.declared.Verdict.{Verdict}
+use Rattle.position.specs.declared.Verdict.the-variants.{Inside, Outside}
 
 -- "2,000,000 to the metre, 2 x 10^11 to a tile (100 km)."
 abbrev pub tiles : ℤ → ℤ
@@ -37,21 +36,20 @@ moved margin ends = record { low = ends .low -ℤ margin; high = ends .high +ℤ
 unfoldable pub outOf : Ends → ℤ → Bool
 outOf ends x = cond (ltZ x (ends .low)) true (ltZ (ends .high) x)
 
--- "16 easting out of range; 17 northing out of range": which of the two, easting first.
-unfoldable pub outAxis : ℤ → Bool → Bool → ℤ → ℤ → OutAxis
-outAxis margin utm north e n =
-    cond (outOf (moved margin (eastings utm north)) e) Easting
-    (cond (outOf (moved margin (northings utm north)) n) Northing Neither)
+-- "16 easting out of range; 17 northing out of range", in this order: inside, of UTM or UPS, or the number.
+unfoldable pub judged : ℤ → Bool → Bool → ℤ → ℤ → Verdict
+judged margin utm north e n =
+    cond (outOf (moved margin (eastings utm north)) e) (Outside 16)
+    (cond (outOf (moved margin (northings utm north)) n) (Outside 17) (Inside utm))
 
-abbrev pub byAxis : {A : Type 0} → OutAxis → A → (ℕ → A) → A
-byAxis Neither inside refused = inside
-byAxis Easting inside refused = refused 16
-byAxis Northing inside refused = refused 17
+-- "14 zone not 0..60", before the two.
+unfoldable pub verdict : ℤ → ℤ → Bool → ℤ → ℤ → Verdict
+verdict margin zone north e n = byGrid (gridOf zone) (judged margin true north e n) (judged margin false north e n) (Outside 14)
+
+abbrev pub inRange : Verdict → UtmCheck
+inRange (Inside utm) = InRange
+inRange (Outside n) = Refused n
 
 -- "UTM range test: the same numbers, both ends in and moved outward by one tile."
-unfoldable pub utmInside : Bool → Bool → ℤ → ℤ → UtmCheck
-utmInside utm north e n = byAxis (outAxis (tiles (pos 1)) utm north e n) InRange Refused
-
--- "14 zone not 0..60"
 unfoldable pub utmCheck : ℤ → Bool → ℤ → ℤ → UtmCheck
-utmCheck zone north e n = byGrid (gridOf zone) (utmInside true north e n) (utmInside false north e n) (Refused 14)
+utmCheck zone north e n = inRange (verdict (tiles (pos 1)) zone north e n)

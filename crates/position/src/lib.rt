@@ -7,9 +7,9 @@ ghost use lib.IntN.{pos, negsuc};
 ghost use mir.Syntax.{w64};
 ghost use mir.Val.{SFits};
 ghost use lib.Signed.{_≤ℤ_, mag};
-ghost use Rattle.position.specs.Ranges.{tiles, eastings, northings, moved, outOf, outAxis, utmInside, utmCheck};
-ghost use Rattle.position.specs.Edges.{lowered, sideOf, edge, mgrsInside, mgrsCheck};
-ghost use Rattle.position.specs.Squares.{halfOf, sideLength, centreOf, cornerOf, southWest};
+ghost use Rattle.position.specs.Ranges.{tiles, eastings, northings, moved, outOf, judged, verdict, utmCheck};
+ghost use Rattle.position.specs.Edges.{lowered, sideOf, edge, mgrsCheck};
+ghost use Rattle.position.specs.Squares.{countOf, halfOf, sideLength, centreOf, cornerOf, southWest};
 ghost use Rattle.position.specs.Metres.{exact, metresOf, metresAt};
 
 // Half micrometres in a tile of 100 km, as a coordinate and as a count.
@@ -90,25 +90,36 @@ fn is_out(x: i64, ends: Ends, margin: i64) -> bool
     high < x
 }
 
-// Which axis of a point is out of range, easting first.
-enum OutAxis {
-    Neither,
-    Easting,
-    Northing,
+// What the range tests find: a point inside, of UTM or of UPS, or the rule by which it is outside.
+enum Verdict {
+    Inside(bool),
+    Outside(u64),
 }
 
-// The margin is a tile at most.
-fn out_axis(margin: i64, utm: bool, north: bool, easting: i64, northing: i64) -> OutAxis
+// 16 and 17, in that order. The margin is a tile at most.
+fn judged_of(margin: i64, utm: bool, north: bool, easting: i64, northing: i64) -> Verdict
     requires { ⌜ (pos 0 ≤ℤ margin) × (margin ≤ℤ tiles (pos 1)) ⌝ }
-    ensures { λ r. ⌜ r ≡ outAxis margin utm north easting northing ⌝ }
+    ensures { λ r. ⌜ r ≡ judged margin utm north easting northing ⌝ }
 {
     if is_out(easting, eastings_of(utm, north), margin) {
-        return OutAxis::Easting;
+        return Verdict::Outside(16);
     }
     if is_out(northing, northings_of(utm, north), margin) {
-        return OutAxis::Northing;
+        return Verdict::Outside(17);
     }
-    OutAxis::Neither
+    Verdict::Inside(utm)
+}
+
+// 14 first.
+fn verdict_of(margin: i64, zone: i64, north: bool, easting: i64, northing: i64) -> Verdict
+    requires { ⌜ (pos 0 ≤ℤ margin) × (margin ≤ℤ tiles (pos 1)) ⌝ }
+    ensures { λ r. ⌜ r ≡ verdict margin zone north easting northing ⌝ }
+{
+    match letters::grid_of(zone) {
+        Grid::Utm => judged_of(margin, true, north, easting, northing),
+        Grid::Ups => judged_of(margin, false, north, easting, northing),
+        Grid::NoZone => Verdict::Outside(14),
+    }
 }
 
 // Whether a point lies in the UTM range, and if not, by which rule.
@@ -117,24 +128,13 @@ pub enum UtmCheck {
     Refused(u64),
 }
 
-fn utm_inside(utm: bool, north: bool, easting: i64, northing: i64) -> UtmCheck
-    ensures { λ r. ⌜ r ≡ utmInside utm north easting northing ⌝ }
-{
-    match out_axis(TILE, utm, north, easting, northing) {
-        OutAxis::Neither => UtmCheck::InRange,
-        OutAxis::Easting => UtmCheck::Refused(16),
-        OutAxis::Northing => UtmCheck::Refused(17),
-    }
-}
-
-// The UTM range test.
+// The UTM range test: the ends are a tile outward.
 pub fn utm_check_coords(zone: i64, north: bool, easting: i64, northing: i64) -> UtmCheck
     ensures { λ r. ⌜ r ≡ utmCheck zone north easting northing ⌝ }
 {
-    match letters::grid_of(zone) {
-        Grid::Utm => utm_inside(true, north, easting, northing),
-        Grid::Ups => utm_inside(false, north, easting, northing),
-        Grid::NoZone => UtmCheck::Refused(14),
+    match verdict_of(TILE, zone, north, easting, northing) {
+        Verdict::Inside(_) => UtmCheck::InRange,
+        Verdict::Outside(n) => UtmCheck::Refused(n),
     }
 }
 
@@ -206,7 +206,7 @@ fn southern(easting: i64, northing: i64) -> Point
 
 // The edge rules, of a point in range.
 fn edge_of(utm: bool, north: bool, easting: i64, northing: i64) -> Point
-    requires { ⌜ outAxis (pos 0) utm north easting northing ≡ OutAxis.Neither ⌝ }
+    requires { ⌜ judged (pos 0) utm north easting northing ≡ Verdict.Inside utm ⌝ }
     ensures { λ r. ⌜ r ≡ edge utm north easting northing ⌝ }
 {
     let easting = lowered_of(easting, eastings_of(utm, north));
@@ -230,38 +230,37 @@ pub enum MgrsCheck {
     Refused(u64),
 }
 
-fn mgrs_inside(utm: bool, north: bool, easting: i64, northing: i64) -> MgrsCheck
-    ensures { λ r. ⌜ r ≡ mgrsInside utm north easting northing ⌝ }
-{
-    match out_axis(0, utm, north, easting, northing) {
-        OutAxis::Neither => MgrsCheck::Moved(edge_of(utm, north, easting, northing)),
-        OutAxis::Easting => MgrsCheck::Refused(16),
-        OutAxis::Northing => MgrsCheck::Refused(17),
-    }
-}
-
 // The MGRS range test and the edge rules.
 pub fn mgrs_check_coords(zone: i64, north: bool, easting: i64, northing: i64) -> MgrsCheck
     ensures { λ r. ⌜ r ≡ mgrsCheck zone north easting northing ⌝ }
 {
-    match letters::grid_of(zone) {
-        Grid::Utm => mgrs_inside(true, north, easting, northing),
-        Grid::Ups => mgrs_inside(false, north, easting, northing),
-        Grid::NoZone => MgrsCheck::Refused(14),
+    match verdict_of(0, zone, north, easting, northing) {
+        Verdict::Inside(utm) => MgrsCheck::Moved(edge_of(utm, north, easting, northing)),
+        Verdict::Outside(n) => MgrsCheck::Refused(n),
     }
+}
+
+// p as a count of digits; 12 for a bare zone and any other p, which have none.
+fn count_of(p: i64) -> usize
+    ensures { λ r. ⌜ r ≡ countOf p ⌝ }
+{
+    if p < 0 {
+        return 12;
+    }
+    if 11 < p {
+        return 12;
+    }
+    p as usize
 }
 
 // Half the side of a square of p digits; 0 for a bare zone and any other p.
 pub fn half_of(p: i64) -> u64
     ensures { λ r. ⌜ r ≡ halfOf p ⌝ }
 {
-    if p < 0 {
+    let n = count_of(p);
+    if 11 < n {
         return 0;
     }
-    if 11 < p {
-        return 0;
-    }
-    let n = p as usize;
     whole::power_of_ten(11 - n)
 }
 
@@ -276,13 +275,10 @@ pub fn side_length(p: i64) -> u64
 pub fn centre_of(p: i64, tile: u8, digits: u64) -> i64
     ensures { λ r. ⌜ r ≡ pos (centreOf p tile digits) ⌝ }
 {
-    if p < 0 {
+    let n = count_of(p);
+    if 11 < n {
         return 0;
     }
-    if 11 < p {
-        return 0;
-    }
-    let n = p as usize;
     if whole::power_of_ten(n) <= digits {
         return 0;
     }

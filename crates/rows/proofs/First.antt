@@ -4,7 +4,7 @@ use mathlib.Core.Bool.{Bool, true, false, cond}
 use Prim.Native.Nat.{ℕ, zero, suc, _+_, _≤_, _<_}
 use native.Mathlib.Omega.{arith}
 use lib.IntN.{ℤ, sucℤ}
-use Rattle.whole.proofs.Parts.{up, dn, eq-by, suc-parts}
+use Rattle.whole.proofs.Parts.{up, dn, clash, eq-by, suc-parts}
 use Rattle.rows.specs.declared.FoundRow.{FoundRow}
 use Rattle.rows.specs.declared.RowAnswer.{RowAnswer}
 use Rattle.rows.specs.declared.RowAnswer.the-variants.{Row, Nothing}
@@ -34,14 +34,14 @@ module _ (f : ℤ → Bool) where
 
   pub first-sound : (r : ℤ) (n : ℕ) (x : FoundRow) → firstRow f r n ≡ Row x → f (x .row) ≡ true
   unfolding firstRow
-  first-sound r zero x e = let z : _≡_ {A = ℕ} 0 1 = cc in absurd (omega arith)
+  first-sound r zero x e = clash (cc)
   first-sound r (suc n) x e = sound-by r (firstRow f (sucℤ r) n) (f r) refl x (first-sound (sucℤ r) n x) e
 
   -- the only row that passes is found where it is among those tried
   module _ (x : ℤ) (p : f x ≡ true) (only : (q : ℤ) → f q ≡ true → q ≡ x) where
     is-by : (r : ℤ) (later : RowAnswer) (t : Bool) → f r ≡ t → ((r ≡ x → ⊥) → later ≡ Row (record { row = x })) → cond t (Row (record { row = r })) later ≡ Row (record { row = x })
     is-by r later true e k = ap (λ (q : ℤ). Row (record { row = q })) (only r e)
-    is-by r later false e k = k (λ q. let z : true ≡ false = sym p ∙ ap f (sym q) ∙ e in let w : _≡_ {A = ℕ} 0 1 = cc in absurd (omega arith))
+    is-by r later false e k = k (λ q. let z : true ≡ false = sym p ∙ ap f (sym q) ∙ e in clash (cc))
 
     after : (r : ℤ) → up r + dn x ≤ dn r + up x → (r ≡ x → ⊥) → up (sucℤ r) + dn x ≤ dn (sucℤ r) + up x
     after r h d =

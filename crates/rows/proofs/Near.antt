@@ -11,7 +11,7 @@ use lib.IntN.{ℤ, pos, negsuc, natAbs, _+ℤ_}
 use lib.ListN.{getD, List·getD-eq-default}
 use lib.Signed.{leZ}
 use mir.Facts.{and-yes, or-yes}
-use Rattle.whole.proofs.Parts.{up, dn, T-true, le-yes, add-parts}
+use Rattle.whole.proofs.Parts.{up, dn, le-of, add-parts}
 use Rattle.whole.proofs.Small.{Small, computed}
 use Rattle.whole.proofs.Table.{all, each}
 use Rattle.rows.specs.declared.Limits.{Limits}
@@ -42,9 +42,6 @@ pub record Ranged (b : ℤ) : Type 0 where
   pub low : Small 90 (lowest b)
   pub high : Small 94 (highest b)
   pub gap : up (highest b) + dn (lowest b) ≤ dn (highest b) + up (lowest b) + 18
-
-pub le-of : (a b : ℤ) → T (leZ a b) → up a + dn b ≤ up b + dn a
-le-of a b t = le-yes a b (T-true (leZ a b) t)
 
 pub limits-ranged : (b : ℤ) → Ranged b
 unfolding up dn limitsOf

@@ -1,5 +1,5 @@
 -- The row letters repeat every twenty rows, at any shift. Assumes nothing.
-use mathlib.Core.Path.{_≡_, refl, sym, _∙_}
+use mathlib.Core.Path.{_≡_, refl, sym, ap, _∙_}
 use mathlib.Core.Bool.{Bool, true, false}
 use Prim.Native.Nat.{ℕ, _+_, _*_, _%_, _≤_, _<_}
 use native.Mathlib.Omega.{arith}
@@ -52,10 +52,10 @@ same-row s q r h k e =
     let b = u .is in
     eq-by q r (omega arith)
 
--- the same letter, as an odd zone counts it
-pub unshift : (s : ℕ) (r : ℤ) (l : ℕ) → letterOf s r ≡ l → letterOf 0 r ≡ unshifted s l
+-- the same letter, as an odd zone counts it: turned back by the shift, and no two letters alike
+pub turned-back : (s : ℕ) (r : ℤ) → letterOf 0 r ≡ unshifted s (letterOf s r)
 unfolding unshifted
-unshift s r l e =
+turned-back s r =
     let t = turns s r in
     let a = t .is in
     let u = turns 0 r in
@@ -64,16 +64,15 @@ unshift s r l e =
     let k = letter-lt 0 r in
     omega arith
 
-pub shift-back : (s : ℕ) (r : ℤ) (l : ℕ) → l < 20 → letterOf 0 r ≡ unshifted s l → letterOf s r ≡ l
+unshifted-one : (s l m : ℕ) → l < 20 → m < 20 → unshifted s l ≡ unshifted s m → l ≡ m
 unfolding unshifted
-shift-back s r l g e =
-    let t = turns s r in
-    let a = t .is in
-    let u = turns 0 r in
-    let b = u .is in
-    let h = letter-lt s r in
-    let k = letter-lt 0 r in
-    omega arith
+unshifted-one s l m h k e = omega arith
+
+pub unshift : (s : ℕ) (r : ℤ) (l : ℕ) → letterOf s r ≡ l → letterOf 0 r ≡ unshifted s l
+unshift s r l e = turned-back s r ∙ ap (unshifted s) e
+
+pub shift-back : (s : ℕ) (r : ℤ) (l : ℕ) → l < 20 → letterOf 0 r ≡ unshifted s l → letterOf s r ≡ l
+shift-back s r l g e = unshifted-one s (letterOf s r) l (letter-lt s r) g (sym (turned-back s r) ∙ e)
 
 -- as a test
 by-test : (s : ℕ) (r : ℤ) (l : ℕ) → l < 20 → (t : Bool) → eqb (letterOf 0 r) (unshifted s l) ≡ t → eqb (letterOf s r) l ≡ t

@@ -10,7 +10,7 @@ use lib.Dec.{T, eqb}
 use lib.IntN.{ℤ, pos, negsuc}
 use lib.Signed.{_≤ℤ_}
 use mir.Facts.{and-yes, eqb-yes}
-use Rattle.whole.proofs.Parts.{up, dn, T-true, le-true}
+use Rattle.whole.proofs.Parts.{up, dn, clash, T-true, le-true}
 use Rattle.rows.specs.declared.FoundRow.{FoundRow}
 use Rattle.rows.specs.declared.RowAnswer.{RowAnswer}
 use Rattle.rows.specs.declared.RowAnswer.the-variants.{Row, Nothing}
@@ -84,8 +84,7 @@ module _ (b : ℤ) (c : ℕ) where
     pub unanswered : resolve s b c l ≡ Nothing → (r : ℤ) → allowed b c r ≡ true → letterOf s r ≡ l → ⊥
     unanswered n r a e =
         let k = sym (found r a e) ∙ n in
-        let z : _≡_ {A = ℕ} 0 1 = cc in
-        omega arith
+        clash (cc)
 
     -- nor is there one, then there is no answer
     pub nothing : ((r : ℤ) → allowed b c r ≡ true → letterOf s r ≡ l → ⊥) → resolve s b c l ≡ Nothing
@@ -112,5 +111,4 @@ module _ (b : ℤ) (c : ℕ) where
         (λ r ar e.
         let q = is-candidate b l h r e (allowed-placed b c r ar) in
         let k : true ≡ false = sym ar ∙ ap (allowed b c) q ∙ a in
-        let z : _≡_ {A = ℕ} 0 1 = cc in
-        omega arith)
+        clash (cc))

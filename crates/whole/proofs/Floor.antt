@@ -80,25 +80,15 @@ mod-parts z d h =
     omega (arith, up-mul q d, dn-mul q d)
 
 -- by the sign of z, from what division of `fold z` gives
-pub div-below : (z : ℤ) {d : ℕ} → 0 < d → ltZ z (pos 0) ≡ true → floorDiv z d ≡ negsuc (fold z / d)
+pub below : (z : ℤ) {d : ℕ} → 0 < d → ltZ z (pos 0) ≡ true → (floorDiv z d ≡ negsuc (fold z / d)) × (floorMod z d ≡ d - 1 - fold z % d)
 unfolding up dn
-div-below (pos n) h t = absurd (omega (arith, lt-yes (pos n) (pos 0) t))
-div-below (negsuc n) h t = div-neg n h
+below (pos n) h t = absurd (omega (arith, lt-yes (pos n) (pos 0) t))
+below (negsuc n) h t = (div-neg n h, mod-neg n h)
 
-pub div-above : (z : ℤ) {d : ℕ} → 0 < d → ltZ z (pos 0) ≡ false → floorDiv z d ≡ pos (fold z / d)
+pub above : (z : ℤ) {d : ℕ} → 0 < d → ltZ z (pos 0) ≡ false → (floorDiv z d ≡ pos (fold z / d)) × (floorMod z d ≡ fold z % d)
 unfolding up dn
-div-above (negsuc n) h t = absurd (omega (arith, lt-no (negsuc n) (pos 0) t))
-div-above (pos n) h t = div-pos n h
-
-pub mod-below : (z : ℤ) {d : ℕ} → 0 < d → ltZ z (pos 0) ≡ true → floorMod z d ≡ d - 1 - fold z % d
-unfolding up dn
-mod-below (pos n) h t = absurd (omega (arith, lt-yes (pos n) (pos 0) t))
-mod-below (negsuc n) h t = mod-neg n h
-
-pub mod-above : (z : ℤ) {d : ℕ} → 0 < d → ltZ z (pos 0) ≡ false → floorMod z d ≡ fold z % d
-unfolding up dn
-mod-above (negsuc n) h t = absurd (omega (arith, lt-no (negsuc n) (pos 0) t))
-mod-above (pos n) h t = mod-pos n h
+above (negsuc n) h t = absurd (omega (arith, lt-no (negsuc n) (pos 0) t))
+above (pos n) h t = (div-pos n h, mod-pos n h)
 
 pub fold-lt : (w : Width) (z : ℤ) → SFits w z → SFits w (pos (fold z))
 fold-lt w (pos n) f = f

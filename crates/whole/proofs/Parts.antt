@@ -22,6 +22,10 @@ unfoldable pub dn : ℤ → ℕ
 dn (pos n) = 0
 dn (negsuc n) = suc n
 
+-- what equates two constructors proves anything: `clash (cc)`, since `cc` then proves 0 ≡ 1
+pub clash : {X : Type 0} → _≡_ {A = ℕ} 0 1 → X
+clash e = absurd (omega arith)
+
 pub T-true : (t : Bool) → T t → t ≡ true
 T-true true h = refl
 T-true false h = absurd h
@@ -128,39 +132,20 @@ unfolding up dn
 abs-parts (pos n) = omega arith
 abs-parts (negsuc n) = omega arith
 
--- the tests' values, from the parts
+-- the test's value, from the parts, and a range in a contract
 module _ (a b : ℤ) where
-  lt-true-at : (t : Bool) → ltZ a b ≡ t → up a + dn b < up b + dn a → ltZ a b ≡ true
-  lt-true-at true e h = e
-  lt-true-at false e h = absurd (omega (arith, lt-no a b e))
-
-  lt-false-at : (t : Bool) → ltZ a b ≡ t → up b + dn a ≤ up a + dn b → ltZ a b ≡ false
-  lt-false-at false e h = e
-  lt-false-at true e h = absurd (omega (arith, lt-yes a b e))
-
   le-true-at : (t : Bool) → leZ a b ≡ t → up a + dn b ≤ up b + dn a → leZ a b ≡ true
   le-true-at true e h = e
   le-true-at false e h = absurd (omega (arith, le-no a b e))
 
-  le-false-at : (t : Bool) → leZ a b ≡ t → up b + dn a < up a + dn b → leZ a b ≡ false
-  le-false-at false e h = e
-  le-false-at true e h = absurd (omega (arith, le-yes a b e))
-
-  pub lt-true : up a + dn b < up b + dn a → ltZ a b ≡ true
-  lt-true h = lt-true-at (ltZ a b) refl h
-
-  pub lt-false : up b + dn a ≤ up a + dn b → ltZ a b ≡ false
-  lt-false h = lt-false-at (ltZ a b) refl h
-
   pub le-true : up a + dn b ≤ up b + dn a → leZ a b ≡ true
   le-true h = le-true-at (leZ a b) refl h
 
-  pub le-false : up b + dn a < up a + dn b → leZ a b ≡ false
-  le-false h = le-false-at (leZ a b) refl h
+  pub le-of : T (leZ a b) → up a + dn b ≤ up b + dn a
+  le-of t = le-yes a b (T-true (leZ a b) t)
 
-  -- a range in a contract
   pub ≤ℤ-parts : a ≤ℤ b → up a + dn b ≤ up b + dn a
-  ≤ℤ-parts h = le-yes a b (T-true (leZ a b) (h .le))
+  ≤ℤ-parts h = le-of (h .le)
 
 -- two numbers with the same bits, as `==` compares them
 pub bits-eq : (w : Width) (a b : ℤ) → SFits w a → SFits w b → ofZ w a ≡ ofZ w b → a ≡ b

@@ -5,13 +5,13 @@ use native.Mathlib.Omega.{arith}
 use borrow.Author.Tests.{eq-eqb, ne-eqb, eqb-true}
 use lib.Dec.{T}
 use mathlib.Core.Bool.{Bool, true, false}
-use lib.IntN.{ℤ, pos, negsuc, natAbs}
+use lib.IntN.{ℤ, pos, negsuc, natAbs, _-ℤ_}
 use lib.Signed.{mag, nonNeg}
 use mir.Syntax.{w64}
 use mir.Val.{SFits, Fits, toZ, ofZ}
 use mir.Facts.{toZ-ofZ}
 use Rattle.whole.specs.Compare.{isNumber, same}
-use Rattle.whole.proofs.Parts.{up, dn}
+use Rattle.whole.proofs.Parts.{up, dn, sub-parts, sfits-by, sfits-up}
 
 -- what a call gave is read back as what it ensures
 pub back : (z v : ℤ) → mag z < 2 ^ 63 → z ≡ v → toZ w64 (ofZ w64 z) ≡ v
@@ -56,3 +56,11 @@ pub is-count : (z : ℤ) → dn z ≤ up z → z ≡ pos (up z)
 unfolding up dn
 is-count (pos n) h = refl
 is-count (negsuc n) h = absurd (omega arith)
+
+-- a number not below 0 less a count fits
+pub less-fits : (z : ℤ) (k : ℕ) → SFits w64 z → dn z ≤ up z → k ≤ 2 ^ 63 → SFits w64 (z -ℤ pos k)
+unfolding up dn
+less-fits z k f h g =
+    let s = sub-parts z (pos k) in
+    let u = sfits-up w64 z f in
+    sfits-by w64 (z -ℤ pos k) (omega arith) (omega arith)

@@ -1,6 +1,5 @@
 -- A table's rule, proved at all of its rows by one equation of lists, which antt computes: the table is the list of f's values from 0 on.
--- Or: two rules agree at each number below n where their lists of values are equal. For several indexes, the values of an outer rule are themselves lists.
--- It holds for rows of any type. Assumes nothing.
+-- For two indexes, the values of an outer rule are themselves lists. It holds for rows of any type. Assumes nothing.
 use mathlib.Core.Path.{_≡_, refl, ap, sym, _∙_}
 use mathlib.Core.List.{List, [], _∷_}
 use Prim.Native.Nat.{ℕ, zero, suc, _+_, _<_}
@@ -25,23 +24,6 @@ row f xs n e d k h = rw e (from f 0 n d k h ∙ ap f (zero-add k))
 -- the same of a table of tables
 pub row2 : {A : Type 0} (f : ℕ → ℕ → A) (xs : List (List A)) (m n : ℕ) → xs ≡ values (λ i. values (f i) 0 n) 0 m → (d : List A) (e : A) (i k : ℕ) → i < m → k < n → getD (getD xs i d) k e ≡ f i k
 row2 f xs m n t d e i k h g = rw (row (λ i. values (f i) 0 n) xs m t d i h) (row (f i) _ n refl e k g)
-
-head : {A : Type 0} → A → List A → A
-head d [] = d
-head d (x ∷ xs) = x
-
-tail : {A : Type 0} → List A → List A
-tail [] = []
-tail (x ∷ xs) = xs
-
-agree-from : {A : Type 0} (f g : ℕ → A) (i n : ℕ) → values f i n ≡ values g i n → (k : ℕ) → k < n → f (i + k) ≡ g (i + k)
-unfolding head tail
-agree-from f g i zero e k h = absurd (not-suc-le-zero h)
-agree-from f g i (suc n) e zero h = rw (add-zero i) (ap (head (f i)) e)
-agree-from f g i (suc n) e (suc k) h = rw (add-suc i k, ← suc-add i k) (agree-from f g (suc i) n (ap tail e) k (le-of-suc-le-suc h))
-
-pub agree : {A : Type 0} (f g : ℕ → A) (n : ℕ) → values f 0 n ≡ values g 0 n → (k : ℕ) → k < n → f k ≡ g k
-agree f g n e k h = rw (zero-add k) at (agree-from f g 0 n e k h)
 
 -- a test that holds at each number below n, in one computation; for several indexes, a test of tests
 abbrev pub all : ℕ → (ℕ → Bool) → Bool

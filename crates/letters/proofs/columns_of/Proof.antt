@@ -5,7 +5,7 @@ use mir.Facts.{toZ-ofZ}
 use borrow.Author.Needs.{needs}
 use Rattle.letters.specs.declared.Grid.the-variants.{Utm}
 use Rattle.letters.specs.Sets.{gridOf, columnsOf}
-use Rattle.letters.proofs.ZoneNumber.{less-fits}
+use Rattle.letters.proofs.ZoneNumber.{zone-less-fits}
 use Rattle.letters.proofs.columns_of.Statement.{statement}
 use Rattle.letters.proofs.columns_of.Tie as tie
 
@@ -30,7 +30,7 @@ utm c = sym (grid (c .before .before)) ∙ c .enum-told .given .1
 sub-floor-mod : tie.Need-sub-floor-mod
 sub-floor-mod c =
     let s = c .before .before .before in
-    rw (toZ-ofZ (s .fits .zone)) (less-fits (s .args .zone) (utm c))
+    rw (toZ-ofZ (s .fits .zone)) (zone-less-fits (s .args .zone) (s .fits .zone) (utm c))
 
 floor-mod-requires : tie.Need-floor-mod-requires
 floor-mod-requires c κs = search needs
@@ -47,7 +47,7 @@ returns c =
     let m = c .before in
     let t = m .before in
     let s = t .before .before .before in
-    let e = rw (toZ-ofZ (s .fits .zone), toZ-ofZ (less-fits (s .args .zone) (utm t))) at (m .floor-mod .ensures) in
+    let e = rw (toZ-ofZ (s .fits .zone), toZ-ofZ (zone-less-fits (s .args .zone) (s .fits .zone) (utm t))) at (m .floor-mod .ensures) in
     rw (utm t) (c .utm-columns .ensures ∙ rw e)
 
 returns-2 : tie.Need-returns-2

@@ -6,90 +6,75 @@ use borrow.Author.Tests.{le-leb, lt-leb, le-ltb}
 use native.Mathlib.Nat.{lt-trans}
 use Prim.Native.Nat.{ℕ, _+_, _-_, _*_, _^_, _≤_, _<_}
 use native.Mathlib.Omega.{arith}
-use Rattle.whole.proofs.Signed.{cast-asks, cast-gives}
 use Rattle.whole.proofs.Powers.{ten-is, ten-le}
-use Rattle.position.specs.Squares.{numberOf, centre, centreOf}
-use Rattle.position.proofs.Squares.{Digits, digits, below, above, centre-split, in-tile}
-use lib.IntN.{ℤ, pos, natAbs}
+use Rattle.position.specs.Squares.{countOf, numberOf, centre, centreOf}
+use Rattle.position.proofs.Squares.{counted, none, centre-split, in-tile}
+use lib.IntN.{ℤ, pos}
 use mir.Syntax.{w64}
-use mir.Val.{toZ, ofZ}
 use mir.Facts.{toZ-ofZ, toZ-pos}
 use Rattle.position.proofs.centre_of.Statement.{statement}
 use Rattle.position.proofs.centre_of.Tie as tie
 
-the-digits : (c : tie.Else2) → Digits (c .before .before .args .p)
-the-digits c =
-    let s = c .before .before in
-    digits (s .args .p) (rw (toZ-ofZ (s .fits .p)) at (c .before .if1 .left)) (rw (toZ-ofZ (s .fits .p)) at (c .if2 .left))
+n-is : (c : tie.After-count-of) → c .count-of .result ≡ countOf (c .before .args .p)
+n-is c = rw (toZ-ofZ (c .before .fits .p)) at (c .count-of .ensures)
 
-read : (c : tie.Else2) → toZ w64 (ofZ w64 (c .before .before .args .p)) ≡ pos (the-digits c .count)
-read c = toZ-ofZ (c .before .before .fits .p) ∙ the-digits c .is
+count-of-requires : tie.Need-count-of-requires
+count-of-requires c κs = search needs
 
-small : (c : tie.Else2) → the-digits c .count < 2 ^ 63
-small c = let h = the-digits c .most in omega arith
-
-n-is : (c : tie.Else2) → natAbs (toZ w64 (ofZ w64 (c .before .before .args .p))) ≡ the-digits c .count
-n-is c = cast-gives (c .before .before .args .p) (the-digits c .count) (read c) (small c)
-
-cast-n : tie.Need-cast-n
-cast-n c = cast-asks (c .before .before .args .p) (the-digits c .count) (read c) (small c)
+small : (c : tie.Else1) → countOf (c .before .before .args .p) ≤ 11
+small c = rw (n-is (c .before)) at (c .if1 .left)
 
 returns : tie.Need-returns
-returns c = ap pos (sym (below (c .before .args .p) (rw (toZ-ofZ (c .before .fits .p)) at (c .if1 .taken)) .1 _ _))
-
-returns-2 : tie.Need-returns-2
-returns-2 c = let s = c .before .before in ap pos (sym (above (s .args .p) (rw (toZ-ofZ (s .fits .p)) at (c .if2 .taken)) .1 _ _))
+returns c = ap pos (sym (none (c .before .before .args .p) (rw (n-is (c .before)) at (c .if1 .taken)) .1 _ _))
 
 power-of-ten-requires : tie.Need-power-of-ten-requires
 power-of-ten-requires c κs = search needs
 
 -- the two powers
-whole-tile : (c : tie.After-power-of-ten) → c .power-of-ten .result ≡ 10 ^ the-digits (c .before) .count
+whole-tile : (c : tie.After-power-of-ten) → c .power-of-ten .result ≡ 10 ^ countOf (c .before .before .before .args .p)
 whole-tile c =
-    let d = the-digits (c .before) in
-    (rw (n-is (c .before)) at (c .power-of-ten .ensures)) ∙ ten-is (d .count) (d .most)
+    let e = c .before in
+    (rw (n-is (e .before)) at (c .power-of-ten .ensures)) ∙ ten-is (countOf (e .before .before .args .p)) (small e)
 
-none : (p : ℤ) (n t d : ℕ) → p ≡ pos n → n ≤ 11 → 10 ^ n ≤ d → centreOf p t d ≡ 0
+many : (p : ℤ) (n t d : ℕ) → p ≡ pos n → n ≤ 11 → 10 ^ n ≤ d → centreOf p t d ≡ 0
 unfolding centreOf
-none p n t d e h g = rw (e, le-ltb 11 n h, le-leb (10 ^ n) d g)
+many p n t d e h g = rw (e, le-ltb 11 n h, le-leb (10 ^ n) d g)
 
 some : (p : ℤ) (n t d : ℕ) → p ≡ pos n → n ≤ 11 → d < 10 ^ n → centreOf p t d ≡ centre n (numberOf n t d)
 unfolding centreOf
 some p n t d e h g = rw (e, le-ltb 11 n h, lt-leb (10 ^ n) d g)
 
-returns-3 : tie.Need-returns-3
-returns-3 c =
+returns-2 : tie.Need-returns-2
+returns-2 c =
     let t = c .before in
-    let s = t .before .before .before in
-    let d = the-digits (t .before) in
-    ap pos (sym (none (s .args .p) (d .count) (s .args .tile) (s .args .digits) (d .is) (d .most) (rw (whole-tile t) at (c .if3 .taken))))
-
-sub-power-of-ten : tie.Need-sub-power-of-ten
-sub-power-of-ten c = rw (n-is (c .before .before)) (the-digits (c .before .before) .most)
+    let e = t .before in
+    let s = e .before .before in
+    let h = small e in
+    ap pos (sym (many (s .args .p) (countOf (s .args .p)) (s .args .tile) (s .args .digits) (counted (s .args .p) h) h (rw (whole-tile t) at (c .if2 .taken))))
 
 power-of-ten-requires-2 : tie.Need-power-of-ten-requires-2
 power-of-ten-requires-2 c κs = search needs
 
-half : (c : tie.After-power-of-ten2) → c .power-of-ten2 .result ≡ 10 ^ (11 - the-digits (c .before .before .before) .count)
+half : (c : tie.After-power-of-ten2) → c .power-of-ten2 .result ≡ 10 ^ (11 - countOf (c .before .before .before .before .before .args .p))
 half c =
     let e = c .before .before .before in
-    let d = the-digits e in
-    (rw (n-is e) at (c .power-of-ten2 .ensures)) ∙ ten-is (11 - d .count) (omega arith)
+    let h = small e in
+    (rw (n-is (e .before)) at (c .power-of-ten2 .ensures)) ∙ ten-is (11 - countOf (e .before .before .args .p)) (omega arith)
 
 -- what is known of the digits, and of the sum
-few : (c : tie.After-power-of-ten2) → let e = c .before .before .before in e .before .before .args .digits < 10 ^ the-digits e .count
-few c = rw (whole-tile (c .before .before)) at (c .before .if3 .left)
+few : (c : tie.After-power-of-ten2) → let s = c .before .before .before .before .before in s .args .digits < 10 ^ countOf (s .args .p)
+few c = rw (whole-tile (c .before .before)) at (c .before .if2 .left)
 
-inner : (c : tie.After-power-of-ten2) → let e = c .before .before .before in (2 * e .before .before .args .digits + 1) * c .power-of-ten2 .result < 200000000000
+inner : (c : tie.After-power-of-ten2) → (2 * c .before .before .before .before .before .args .digits + 1) * c .power-of-ten2 .result < 200000000000
 inner c =
     let e = c .before .before .before in
     let s = e .before .before in
-    rw (half c) (in-tile (the-digits e .count) (s .args .tile) (s .args .digits) (the-digits e .most) (few c))
+    rw (half c) (in-tile (countOf (s .args .p)) (s .args .tile) (s .args .digits) (small e) (few c))
 
 little : (c : tie.After-power-of-ten2) → c .before .before .before .before .before .args .digits < 100000000000
 little c =
     let e = c .before .before .before in
-    let h = ten-le (the-digits e .count) (the-digits e .most) in
+    let h = ten-le (countOf (e .before .before .args .p)) (small e) in
     let g = few c in
     omega arith
 
@@ -117,13 +102,13 @@ add-units-2 c = let h = sum-lt _ _ (tile-lt c) (inner c) in record { fits = lt-t
 cast-result : tie.Need-cast-result
 cast-result c = record { sfits = sum-lt _ _ (tile-lt c) (inner c) }
 
-returns-4 : tie.Need-returns-4
-returns-4 c =
+returns-3 : tie.Need-returns-3
+returns-3 c =
     let e = c .before .before .before in
     let s = e .before .before in
-    let d = the-digits e in
+    let h = small e in
     toZ-pos w64 (sum-lt _ _ (tile-lt c) (inner c))
-    ∙ ap pos (rw (half c) (centre-split (d .count) (s .args .tile) (s .args .digits) (d .most)) ∙ sym (some (s .args .p) (d .count) (s .args .tile) (s .args .digits) (d .is) (d .most) (few c)))
+    ∙ ap pos (rw (half c) (centre-split (countOf (s .args .p)) (s .args .tile) (s .args .digits) h) ∙ sym (some (s .args .p) (countOf (s .args .p)) (s .args .tile) (s .args .digits) (counted (s .args .p) h) h (few c)))
 
 pub centre-of-spec : {M : Type 1} → statement M
-centre-of-spec = tie.close (tie.spec returns returns-2 cast-n power-of-ten-requires returns-3 sub-power-of-ten power-of-ten-requires-2 mul-units mul-units-2 add-units mul-units-3 add-units-2 cast-result returns-4)
+centre-of-spec = tie.close (tie.spec count-of-requires returns power-of-ten-requires returns-2 power-of-ten-requires-2 mul-units mul-units-2 add-units mul-units-3 add-units-2 cast-result returns-3)

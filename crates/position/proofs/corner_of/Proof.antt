@@ -5,7 +5,8 @@ use mathlib.Core.Bool.{false}
 use borrow.Author.Needs.{needs}
 use native.Mathlib.Omega.{arith}
 use lib.Signed.{ltZ}
-use Rattle.whole.proofs.Parts.{up, dn, lt-no, sub-parts, sfits-by, sfits-up}
+use Rattle.whole.proofs.Parts.{up, dn, lt-no}
+use Rattle.whole.proofs.Signed.{less-fits}
 use Rattle.position.specs.Squares.{halfOf, cornerOf}
 use Rattle.position.proofs.Squares.{half-le}
 use lib.IntN.{ℤ, pos, _-ℤ_}
@@ -24,13 +25,12 @@ wide p = let h = half-le p in record { sfits = omega arith }
 read : (c : tie.After-half-of) → toZ w64 (c .half-of .result) ≡ pos (halfOf (c .before .args .p))
 read c = rw (half c) (toZ-pos w64 (wide (c .before .args .p) .sfits))
 
-less-fits : (p z : ℤ) → SFits w64 z → ltZ z (pos (halfOf p)) ≡ false → SFits w64 (z -ℤ pos (halfOf p))
+corner-fits : (p z : ℤ) → SFits w64 z → ltZ z (pos (halfOf p)) ≡ false → SFits w64 (z -ℤ pos (halfOf p))
 unfolding up dn
-less-fits p z f t =
+corner-fits p z f t =
     let h = lt-no z (pos (halfOf p)) t in
-    let s = sub-parts z (pos (halfOf p)) in
-    let u = sfits-up w64 z f in
-    sfits-by w64 (z -ℤ pos (halfOf p)) (omega arith) (omega arith)
+    let k = half-le p in
+    less-fits z (halfOf p) f (omega arith) (omega arith)
 
 half-of-requires : tie.Need-half-of-requires
 half-of-requires c κs = search needs
@@ -51,13 +51,13 @@ test c = let s = c .before .before in rw (toZ-ofZ (s .fits .centre), read (c .be
 sub-result : tie.Need-sub-result
 sub-result c =
     let s = c .before .before in
-    rw (toZ-ofZ (s .fits .centre), read (c .before)) (less-fits (s .args .p) (s .args .centre) (s .fits .centre) (test c))
+    rw (toZ-ofZ (s .fits .centre), read (c .before)) (corner-fits (s .args .p) (s .args .centre) (s .fits .centre) (test c))
 
 returns-2 : tie.Need-returns-2
 unfolding cornerOf
 returns-2 c =
     let s = c .before .before in
-    rw (toZ-ofZ (s .fits .centre), read (c .before), test c, toZ-ofZ (less-fits (s .args .p) (s .args .centre) (s .fits .centre) (test c)))
+    rw (toZ-ofZ (s .fits .centre), read (c .before), test c, toZ-ofZ (corner-fits (s .args .p) (s .args .centre) (s .fits .centre) (test c)))
 
 pub corner-of-spec : {M : Type 1} → statement M
 corner-of-spec = tie.close (tie.spec half-of-requires cast-half returns sub-result returns-2)

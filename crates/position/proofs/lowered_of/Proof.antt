@@ -2,26 +2,16 @@
 -- Assumes nothing.
 use mathlib.Core.Path.{_≡_, ap}
 use native.Mathlib.Omega.{arith}
-use lib.Signed.{_≤ℤ_}
-use Rattle.whole.proofs.Parts.{up, dn, bits-eq, sub-parts, ≤ℤ-parts, sfits-up}
-use Rattle.whole.proofs.Signed.{same-yes, same-no}
-use Rattle.whole.proofs.Parts.{sfits-by}
+use lib.Dec.{lit≤}
+use Rattle.whole.proofs.Parts.{up, dn, bits-eq, ≤ℤ-parts}
+use Rattle.whole.proofs.Signed.{same-yes, same-no, less-fits}
 use Rattle.position.specs.Edges.{lowered}
-use lib.IntN.{ℤ, pos, _-ℤ_}
+use lib.IntN.{pos, _-ℤ_}
 use mir.Syntax.{w64}
 use mir.Val.{SFits, ofZ}
 use mir.Facts.{toZ-ofZ}
 use Rattle.position.proofs.lowered_of.Statement.{statement}
 use Rattle.position.proofs.lowered_of.Tie as tie
-
--- a number not below 0, less one
-less-fits : (x : ℤ) → SFits w64 x → pos 0 ≤ℤ x → SFits w64 (x -ℤ pos 1)
-unfolding up dn
-less-fits x f h =
-    let a = ≤ℤ-parts (pos 0) x h in
-    let s = sub-parts x (pos 1) in
-    let u = sfits-up w64 x f in
-    sfits-by w64 (x -ℤ pos 1) (omega arith) (omega arith)
 
 high-fits : (c : tie.After-struct-told) → SFits w64 (c .before .before .args .ends .high)
 high-fits c = record { sfits = c .struct-told .given .1 .0 .1 }
@@ -30,7 +20,11 @@ on-end : (c : tie.Then1) → let s = c .before .before .before in s .args .x ≡
 on-end c = let s = c .before .before .before in bits-eq w64 _ _ (s .fits .x) (high-fits (c .before)) (c .if1 .taken)
 
 fits : (c : tie.Then1) → let s = c .before .before .before in SFits w64 (s .args .x -ℤ pos 1)
-fits c = let s = c .before .before .before in less-fits (s .args .x) (s .fits .x) (rw (on-end c) (s .pre))
+unfolding up dn
+fits c =
+    let s = c .before .before .before in
+    let a = ≤ℤ-parts (pos 0) (s .args .x) (rw (on-end c) (s .pre)) in
+    less-fits (s .args .x) 1 (s .fits .x) (omega arith) (lit≤ tt)
 
 sub-result : tie.Need-sub-result
 sub-result c = rw (toZ-ofZ (c .before .before .before .fits .x)) (fits c)

@@ -3,11 +3,12 @@
 use mathlib.Core.Path.{_≡_, refl, sym, _∙_}
 use mathlib.Core.Bool.{Bool, true, false}
 use borrow.Author.Needs.{needs}
-use Prim.Native.Nat.{ℕ, _^_, _<_}
+use Prim.Native.Nat.{_^_, _<_}
 use native.Mathlib.Omega.{arith}
 use borrow.Author.Tests.{ltb-true, ltb-false}
 use lib.Signed.{mag, ltZ}
 use mathlib.Core.Bool.{cond}
+use Rattle.whole.proofs.Parts.{clash}
 use Rattle.position.specs.Metres.{exact, metresAt}
 use lib.IntN.{ℤ, pos, negsuc}
 use mir.Facts.{toZ-ofZ}
@@ -16,7 +17,7 @@ use Rattle.position.proofs.metres_of.Tie as tie
 
 -- an exact count is below 2 ^ 53 in size
 exact-by : (z : ℤ) (a b : Bool) → ltZ z (negsuc 9007199254740991) ≡ a → ltZ z (pos 9007199254740992) ≡ b → cond a false b ≡ true → mag z < 2 ^ 53
-exact-by z true b p q e = let k : _≡_ {A = ℕ} 0 1 = cc in absurd (omega arith)
+exact-by z true b p q e = clash (cc)
 exact-by (pos n) false b p q e = ltb-true n 9007199254740992 (q ∙ e)
 exact-by (negsuc n) false b p q e = let k = ltb-false 9007199254740991 n p in omega arith
 

@@ -1,53 +1,32 @@
--- `position::utm_check_coords` meets its contract, by what `grid_of` and `utm_inside` ensure.
+-- `position::utm_check_coords` meets its contract, by what `verdict_of` ensures.
 -- Assumes nothing.
 use mathlib.Core.Path.{_≡_, sym, _∙_}
 use borrow.Author.Needs.{needs}
-use Rattle.letters.specs.Sets.{gridOf}
-use Rattle.position.specs.Ranges.{utmCheck}
+use Rattle.position.specs.Ranges.{tiles, verdict, utmCheck}
+use lib.IntN.{pos}
 use mir.Facts.{toZ-ofZ}
 use Rattle.position.proofs.utm_check_coords.Statement.{statement}
 use Rattle.position.proofs.utm_check_coords.Tie as tie
 
-grid : (c : tie.After-grid-of) → c .grid-of .result ≡ gridOf (c .before .args .zone)
-grid c = rw (toZ-ofZ (c .before .fits .zone)) at (c .grid-of .ensures)
+verdict-of-requires : tie.Need-verdict-of-requires
+verdict-of-requires c κs = (record { le = tt }, record { le = tt })
 
-grid-of-requires : tie.Need-grid-of-requires
-grid-of-requires c κs = search needs
+said : (c : tie.After-verdict-of) → let s = c .before in c .verdict-of .result ≡ verdict (tiles (pos 1)) (s .args .zone) (s .args .north) (s .args .easting) (s .args .northing)
+said c = let s = c .before in rw (toZ-ofZ (s .fits .zone), toZ-ofZ (s .fits .easting), toZ-ofZ (s .fits .northing)) at (c .verdict-of .ensures)
 
 enum-told : tie.Need-enum-told
 enum-told c = search needs
 
-utm-inside-requires : tie.Need-utm-inside-requires
-utm-inside-requires c κs = search needs
-
-enum-told-2 : tie.Need-enum-told-2
-enum-told-2 c = search needs
-
-utm-inside-requires-2 : tie.Need-utm-inside-requires-2
-utm-inside-requires-2 c κs = search needs
-
-enum-told-3 : tie.Need-enum-told-3
-enum-told-3 c = search needs
+enum-known-n : tie.Need-enum-known-n
+enum-known-n c = search needs
 
 returns : tie.Need-returns
 unfolding utmCheck
-returns c =
-    let t = c .before in
-    let s = t .before .before .before in
-    let k = sym (grid (t .before .before)) ∙ t .enum-told .given .1 in
-    rw k (rw (toZ-ofZ (s .fits .easting), toZ-ofZ (s .fits .northing)) at (c .utm-inside .ensures))
+returns c = let k = sym (said (c .before .before)) ∙ c .enum-told .given .1 in rw k
 
 returns-2 : tie.Need-returns-2
 unfolding utmCheck
-returns-2 c =
-    let t = c .before in
-    let s = t .before .before .before in
-    let k = sym (grid (t .before .before)) ∙ t .enum-told2 .given .1 in
-    rw k (rw (toZ-ofZ (s .fits .easting), toZ-ofZ (s .fits .northing)) at (c .utm-inside2 .ensures))
-
-returns-3 : tie.Need-returns-3
-unfolding utmCheck
-returns-3 c = let k = sym (grid (c .before .before)) ∙ c .enum-told3 .given .1 in rw k
+returns-2 c = let n = c .before in let k = sym (said (n .before .before)) ∙ n .n .given .1 in rw k
 
 pub utm-check-coords-spec : {M : Type 1} → statement M
-utm-check-coords-spec = tie.close (tie.spec grid-of-requires enum-told utm-inside-requires enum-told-2 utm-inside-requires-2 enum-told-3 returns returns-2 returns-3)
+utm-check-coords-spec = tie.close (tie.spec verdict-of-requires enum-told enum-known-n returns returns-2)

@@ -11,7 +11,7 @@ use mir.Val.{SFits, toZ}
 use mir.Facts.{toZ-ofZ, toZ-pos}
 use Rattle.whole.specs.Floor.{fold}
 use Rattle.whole.proofs.Parts.{up, dn, eq-by, sub-parts}
-use Rattle.whole.proofs.Floor.{by-zero, div-below, div-above, fold-lt}
+use Rattle.whole.proofs.Floor.{by-zero, below, above, fold-lt}
 use Rattle.whole.proofs.floor_div.Statement.{statement}
 use Rattle.whole.proofs.floor_div.Tie as tie
 
@@ -59,12 +59,12 @@ returns-2 c =
     let s = c .before .before .before in
     rw (quotient (c .before), minus (fold (s .args .x) / s .args .d))
     (toZ-ofZ (below-fits (s .args .x) (s .args .d) (s .fits .x))
-    ∙ sym (div-below (s .args .x) (search needs) (rw (toZ-ofZ (s .fits .x)) at (c .if2 .taken))))
+    ∙ sym (below (s .args .x) (search needs) (rw (toZ-ofZ (s .fits .x)) at (c .if2 .taken)) .0))
 
 returns-3 : tie.Need-returns-3
 returns-3 c =
     let s = c .before .before .before in
-    quotient (c .before) ∙ sym (div-above (s .args .x) (search needs) (rw (toZ-ofZ (s .fits .x)) at (c .if2 .left)))
+    quotient (c .before) ∙ sym (above (s .args .x) (search needs) (rw (toZ-ofZ (s .fits .x)) at (c .if2 .left)) .0)
 
 pub floor-div-spec : {M : Type 1} → statement M
 floor-div-spec =

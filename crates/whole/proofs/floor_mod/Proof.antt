@@ -7,7 +7,7 @@ use native.Mathlib.Omega.{arith}
 use borrow.Author.Needs.{needs}
 use mir.Facts.{toZ-ofZ}
 use Rattle.whole.specs.Floor.{fold}
-use Rattle.whole.proofs.Floor.{by-zero, mod-below, mod-above}
+use Rattle.whole.proofs.Floor.{by-zero, below, above}
 use Rattle.whole.proofs.floor_mod.Statement.{statement}
 use Rattle.whole.proofs.floor_mod.Tie as tie
 
@@ -35,12 +35,12 @@ sub-result-2 c =
 returns-2 : tie.Need-returns-2
 returns-2 c =
     let s = c .before .before .before in
-    rw (folded (c .before)) (sym (mod-below (s .args .x) (search needs) (rw (toZ-ofZ (s .fits .x)) at (c .if2 .taken))))
+    rw (folded (c .before)) (sym (below (s .args .x) (search needs) (rw (toZ-ofZ (s .fits .x)) at (c .if2 .taken)) .1))
 
 returns-3 : tie.Need-returns-3
 returns-3 c =
     let s = c .before .before .before in
-    rw (folded (c .before)) (sym (mod-above (s .args .x) (search needs) (rw (toZ-ofZ (s .fits .x)) at (c .if2 .left))))
+    rw (folded (c .before)) (sym (above (s .args .x) (search needs) (rw (toZ-ofZ (s .fits .x)) at (c .if2 .left)) .1))
 
 pub floor-mod-spec : {M : Type 1} → statement M
 floor-mod-spec =

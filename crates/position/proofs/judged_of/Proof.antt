@@ -1,12 +1,12 @@
--- `position::out_axis` meets its contract, by what `is_out` ensures of each axis.
+-- `position::judged_of` meets its contract, by what `is_out` ensures of each axis.
 -- Assumes nothing.
 use mathlib.Core.Path.{_≡_, sym, _∙_}
 use borrow.Author.Needs.{needs}
-use Rattle.position.specs.Ranges.{eastings, northings, moved, outOf, outAxis}
+use Rattle.position.specs.Ranges.{eastings, northings, moved, outOf, judged}
 use Rattle.position.proofs.Bounds.{east-bounded, north-bounded, moved-fit}
 use mir.Facts.{toZ-ofZ}
-use Rattle.position.proofs.out_axis.Statement.{statement}
-use Rattle.position.proofs.out_axis.Tie as tie
+use Rattle.position.proofs.judged_of.Statement.{statement}
+use Rattle.position.proofs.judged_of.Tie as tie
 
 eastings-of-requires : tie.Need-eastings-of-requires
 eastings-of-requires c κs = search needs
@@ -23,7 +23,7 @@ east c =
     rw (toZ-ofZ (s .fits .margin), toZ-ofZ (s .fits .easting), c .before .eastings-of .ensures) at (c .is-out .ensures)
 
 returns : tie.Need-returns
-unfolding outAxis
+unfolding judged
 returns c = let k = sym (east (c .before)) ∙ c .if1 .taken in rw k
 
 northings-of-requires : tie.Need-northings-of-requires
@@ -41,7 +41,7 @@ north c =
     rw (toZ-ofZ (s .fits .margin), toZ-ofZ (s .fits .northing), c .before .northings-of .ensures) at (c .is-out2 .ensures)
 
 returns-2 : tie.Need-returns-2
-unfolding outAxis
+unfolding judged
 returns-2 c =
     let e = c .before .before .before in
     let j = sym (east (e .before)) ∙ e .if1 .left in
@@ -49,12 +49,12 @@ returns-2 c =
     rw (j, k)
 
 returns-3 : tie.Need-returns-3
-unfolding outAxis
+unfolding judged
 returns-3 c =
     let e = c .before .before .before in
     let j = sym (east (e .before)) ∙ e .if1 .left in
     let k = sym (north (c .before)) ∙ c .if2 .left in
     rw (j, k)
 
-pub out-axis-spec : {M : Type 1} → statement M
-out-axis-spec = tie.close (tie.spec eastings-of-requires is-out-requires returns northings-of-requires is-out-requires-2 returns-2 returns-3)
+pub judged-of-spec : {M : Type 1} → statement M
+judged-of-spec = tie.close (tie.spec eastings-of-requires is-out-requires returns northings-of-requires is-out-requires-2 returns-2 returns-3)
