@@ -16,7 +16,7 @@ use Rattle.whole.proofs.Table.{all, each, every, every-head, every-tail}
 use Rattle.letters.specs.declared.LetterSet.{LetterSet}
 use Rattle.letters.specs.declared.Place.{Place}
 use Rattle.letters.specs.declared.Place.the-variants.{At, NotInSet}
-use Rattle.letters.specs.Letters.{lettersOf, placeFrom, placeOf, letterAt}
+use Rattle.letters.specs.Letters.{lettersOf, placeFrom, placeOf, letterAt, firstTile}
 use Rattle.letters.proofs.Sets.{setAt, for-all}
 
 -- at the i-th place of a list from i on: the j-th place holds x
@@ -81,6 +81,11 @@ placed-exactly set b k =
 -- a set has at most 24 letters
 pub size-le : (set : LetterSet) → sizeOf set ≤ 24
 size-le set = leb→le (sizeOf set) 24 (for-all (λ set. leb (sizeOf set) 24) tt set)
+
+-- and its first tile is at most 20
+pub first-le : (set : LetterSet) → firstTile set ≤ 20
+unfolding firstTile
+first-le set = leb→le (firstTile set) 20 (for-all (λ set. leb (firstTile set) 20) tt set)
 
 pub past-end : (set : LetterSet) (k : ℕ) → 24 ≤ k → letterAt set k ≡ 0
 unfolding letterAt

@@ -40,6 +40,11 @@ placeFrom i (x ∷ xs) b = cond (eqb x b) (At i) (placeFrom (suc i) xs b)
 unfoldable pub placeOf : LetterSet → ℕ → Place
 placeOf set b = placeFrom 0 (lettersOf set) b
 
+-- What is answered where a letter is "not in its set", or by its place.
+abbrev pub byPlace : {A : Type 0} → Place → A → (ℕ → A) → A
+byPlace NotInSet none at = none
+byPlace (At k) none at = at k
+
 -- The letter at a place, 0 past the set's end.
 unfoldable pub letterAt : LetterSet → ℕ → ℕ
 letterAt set k = getD (lettersOf set) k 0

@@ -4,7 +4,7 @@ use mathlib.Core.Bool.{Bool, true, false, cond, _&&_}
 use Prim.Native.Nat.{ℕ, _+_, _-_, _*_, _/_, _^_, _≤_, _<_}
 use native.Mathlib.Nat.{add-mul, mul-assoc, mul-comm, one-mul, mul-lt-mul-of-pos-right, div-eq-of-lt-le, div-lt-iff-lt-mul, le-div-iff-mul-le}
 use native.Mathlib.Omega.{arith}
-use borrow.Author.Tests.{lt-ltb, le-ltb, le-leb, ltb-true, ltb-false, leb-true, eq-eqb, ne-eqb}
+use borrow.Author.Tests.{lt-ltb, le-ltb, le-leb, lt-leb, ltb-true, ltb-false, leb-true, eq-eqb, ne-eqb}
 use lib.Dec.{T, ltb, leb, eqb}
 use lib.IntN.{ℤ, pos, negsuc}
 use mir.Facts.{and-yes}
@@ -44,6 +44,11 @@ pub half-le : (p : ℤ) → halfOf p ≤ 100000000000
 unfolding halfOf
 half-le (pos n) = half-by n (ltb 11 n) refl
 half-le (negsuc n) = omega arith
+
+-- the centre of what is handed over, where it has one
+pub centre-at : (p t d : ℕ) → p ≤ 11 → d < 10 ^ p → centreOf (pos p) t d ≡ centre p (numberOf p t d)
+unfolding centreOf
+centre-at p t d h g = rw (le-ltb 11 p h, lt-leb (10 ^ p) d g)
 
 -- the centre, from the tile and the digits apart
 module _ (p t d : ℕ) (h : p ≤ 11) where

@@ -2,13 +2,13 @@
 -- Assumes nothing.
 use mathlib.Core.Path.{_≡_, sym, ap, _∙_}
 use borrow.Author.Needs.{needs}
-use borrow.Author.Tests.{le-leb, lt-leb, le-ltb}
+use borrow.Author.Tests.{le-leb, le-ltb}
 use native.Mathlib.Nat.{lt-trans}
 use Prim.Native.Nat.{ℕ, _+_, _-_, _*_, _^_, _≤_, _<_}
 use native.Mathlib.Omega.{arith}
 use Rattle.whole.proofs.Powers.{ten-is, ten-le}
 use Rattle.position.specs.Squares.{countOf, numberOf, centre, centreOf}
-use Rattle.position.proofs.Squares.{counted, none, centre-split, in-tile}
+use Rattle.position.proofs.Squares.{counted, none, centre-at, centre-split, in-tile}
 use lib.IntN.{ℤ, pos}
 use mir.Syntax.{w64}
 use mir.Facts.{toZ-ofZ, toZ-pos}
@@ -41,8 +41,7 @@ unfolding centreOf
 many p n t d e h g = rw (e, le-ltb 11 n h, le-leb (10 ^ n) d g)
 
 some : (p : ℤ) (n t d : ℕ) → p ≡ pos n → n ≤ 11 → d < 10 ^ n → centreOf p t d ≡ centre n (numberOf n t d)
-unfolding centreOf
-some p n t d e h g = rw (e, le-ltb 11 n h, lt-leb (10 ^ n) d g)
+some p n t d e h g = rw e (centre-at n t d h g)
 
 returns-2 : tie.Need-returns-2
 returns-2 c =

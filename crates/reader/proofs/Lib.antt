@@ -1,0 +1,4 @@
+pub mod Bounds
+pub mod Stages
+pub mod Sizes
+pub mod Unique

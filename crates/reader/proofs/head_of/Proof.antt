@@ -1,0 +1,207 @@
+-- `reader::head_of` meets its contract: each test is the definition's, by what the scans and the sets ensure.
+-- Assumes nothing.
+use mathlib.Core.Path.{_≡_, sym, _∙_}
+use borrow.Author.Needs.{needs}
+use borrow.Author.Tests.{lt-ltb, le-ltb, le-leb, lt-leb}
+use native.Mathlib.Omega.{arith}
+use mathlib.Core.Bool.{true, false}
+use mathlib.Core.List.{List}
+use Prim.Native.Nat.{ℕ, _+_, _≤_, _<_}
+use lib.IntN.{ℤ, pos}
+use lib.ListN.{length}
+use mir.Syntax.{w64}
+use mir.Val.{toZ, SFits}
+use mir.Facts.{toZ-pos}
+use Rattle.letters.specs.declared.Place.{Place}
+use Rattle.letters.specs.declared.Place.the-variants.{At, NotInSet}
+use Rattle.letters.specs.Letters.{placeOf}
+use Rattle.reader.specs.declared.HeadAnswer.the-variants.{Start, NoStart}
+use Rattle.letters.specs.Sets.{bandsOf}
+use Rattle.scan.specs.Scan.{hasHigh, leadOf}
+use Rattle.reader.specs.Head.{letterIn, isInv, zoneWrong, headOf}
+use Rattle.reader.proofs.head_of.Statement.{statement}
+use Rattle.reader.proofs.head_of.Tie as tie
+
+abbrev place : List ℕ → Place
+place s = placeOf (bandsOf (pos (leadOf s .value))) (letterIn s (leadOf s .count))
+
+-- what is answered, by the tests that were passed
+module _ (s : List ℕ) (plain : hasHigh s ≡ false) where
+  two : isInv s ≡ true → NoStart 2 ≡ headOf s
+  unfolding headOf
+  two i = rw (plain, i)
+
+  module _ (inv : isInv s ≡ false) where
+    three : zoneWrong (leadOf s) ≡ true → NoStart 3 ≡ headOf s
+    unfolding headOf
+    three w = rw (plain, inv, w)
+
+    module _ (right : zoneWrong (leadOf s) ≡ false) where
+      four : 2 < leadOf s .count → NoStart 4 ≡ headOf s
+      unfolding headOf
+      four m = rw (plain, inv, right, lt-ltb 2 _ m)
+
+      module _ (few : leadOf s .count ≤ 2) where
+        five : length s ≤ leadOf s .count → NoStart 5 ≡ headOf s
+        unfolding headOf
+        five e = rw (plain, inv, right, le-ltb 2 _ few, le-leb _ _ e)
+
+        module _ (more : leadOf s .count < length s) where
+          six : place s ≡ NotInSet → NoStart 6 ≡ headOf s
+          unfolding headOf
+          six n = rw (plain, inv, right, le-ltb 2 _ few, lt-leb _ _ more, n)
+
+          start : (z : ℤ) (b k n : ℕ) → z ≡ pos (leadOf s .value) → b ≡ letterIn s (leadOf s .count) → place s ≡ At k → n ≡ leadOf s .count + 1
+              → Start (record { zone = z; band = b; place = k; next = n }) ≡ headOf s
+          unfolding headOf
+          start z b k n ez eb ek en = rw (plain, inv, right, le-ltb 2 _ few, lt-leb _ _ more, ek, ez, eb, en)
+
+-- the value is cut to 61
+small : (s : List ℕ) → leadOf s .value ≤ 61
+unfolding leadOf
+small s = omega arith
+
+has-high-requires : tie.Need-has-high-requires
+has-high-requires c κs = search needs
+
+returns : tie.Need-returns
+unfolding headOf
+returns c = let k = sym (c .before .has-high .ensures) ∙ c .if1 .taken in rw k
+
+is-inv-requires : tie.Need-is-inv-requires
+is-inv-requires c κs = search needs
+
+plain : (c : tie.Else1) → hasHigh (c .before .before .before .args .s .now) ≡ false
+plain c = sym (c .before .has-high .ensures) ∙ c .if1 .left
+
+returns-2 : tie.Need-returns-2
+returns-2 c = let i = c .before in two _ (plain (i .before)) (sym (i .is-inv .ensures) ∙ c .if2 .taken)
+
+lead-of-requires : tie.Need-lead-of-requires
+lead-of-requires c κs = search needs
+
+is-zone-wrong-requires : tie.Need-is-zone-wrong-requires
+is-zone-wrong-requires c κs = search needs
+
+no-inv : (c : tie.Else2) → isInv (c .before .before .before .before .before .args .s .now) ≡ false
+no-inv c = sym (c .before .is-inv .ensures) ∙ c .if2 .left
+
+wrong : (c : tie.After-is-zone-wrong) → c .is-zone-wrong .result ≡ zoneWrong (leadOf (c .before .before .before .before .before .before .before .args .s .now))
+wrong c = rw (c .before .lead-of .ensures) at (c .is-zone-wrong .ensures)
+
+returns-3 : tie.Need-returns-3
+returns-3 c =
+    let w = c .before in
+    let i = w .before .before in
+    three _ (plain (i .before .before)) (no-inv i) (sym (wrong w) ∙ c .if3 .taken)
+
+right : (c : tie.Else3) → zoneWrong (leadOf (c .before .before .before .before .before .before .before .before .args .s .now)) ≡ false
+right c = sym (wrong (c .before)) ∙ c .if3 .left
+
+returns-4 : tie.Need-returns-4
+returns-4 c =
+    let r = c .before in
+    let l = r .before .before in
+    let i = l .before in
+    four _ (plain (i .before .before)) (no-inv i) (right r) (rw (l .lead-of .ensures) at (c .if4 .taken))
+
+returns-5 : tie.Need-returns-5
+returns-5 c =
+    let f = c .before in
+    let r = f .before in
+    let l = r .before .before in
+    let i = l .before in
+    five _ (plain (i .before .before)) (no-inv i) (right r) (rw (l .lead-of .ensures) at (f .if4 .left)) (rw (l .lead-of .ensures) at (c .if5 .taken))
+
+cast-zone : tie.Need-cast-zone
+cast-zone c =
+    let l = c .before .before .before .before .before in
+    let s = l .before .before .before .before .before .before in
+    let h = small (s .args .s .now) in
+    rw (l .lead-of .ensures) (record { sfits = omega arith })
+
+shared-slice-read-capital : tie.Need-shared-slice-read-capital
+shared-slice-read-capital c = search needs
+
+capital-requires : tie.Need-capital-requires
+capital-requires c κs = search needs
+
+bands-of-requires : tie.Need-bands-of-requires
+bands-of-requires c κs = search needs
+
+place-of-requires : tie.Need-place-of-requires
+place-of-requires c κs = search needs
+
+enum-known-place : tie.Need-enum-known-place
+enum-known-place c = search needs
+
+enum-told : tie.Need-enum-told
+enum-told c = search needs
+
+-- the band and its place, of the zone and the letter as the text has them
+zone : (c : tie.After-struct-known) → let s = c .before .before .before .before .before .before .before .before .before .before .before in toZ w64 (c .before .before .before .before .before .lead-of .result .value) ≡ pos (leadOf (s .args .s .now) .value)
+zone c =
+    let l = c .before .before .before .before .before in
+    let s = l .before .before .before .before .before .before in
+    let h = small (s .args .s .now) in
+    rw (l .lead-of .ensures) (toZ-pos w64 (omega arith))
+
+band : (c : tie.After-capital) → let s = c .before .before .before .before .before .before .before .before .before .before .before .before .before in c .capital .result ≡ letterIn (s .args .s .now) (leadOf (s .args .s .now) .count)
+band c = rw (c .before .before .before .before .before .before .before .lead-of .ensures) at (c .capital .ensures)
+
+place-is : (c : tie.After-place-of) → let s = c .before .before .before .before .before .before .before .before .before .before .before .before .before .before .before in c .place-of .result ≡ place (s .args .s .now)
+place-is c =
+    let b = c .before in
+    let a = b .before in
+    let k = rw (zone (a .before .before)) at (b .bands-of .ensures) in
+    rw (k, band a) at (c .place-of .ensures)
+
+returns-6 : tie.Need-returns-6
+returns-6 c =
+    let p = c .before .before in
+    let m = p .before .before .before .before .before in
+    let f = m .before in
+    let r = f .before in
+    let l = r .before .before in
+    let i = l .before in
+    six _ (plain (i .before .before)) (no-inv i) (right r) (rw (l .lead-of .ensures) at (f .if4 .left)) (rw (l .lead-of .ensures) at (m .if5 .left))
+    (sym (place-is p) ∙ c .enum-told .given .1)
+
+add-next : tie.Need-add-next
+add-next c = search needs
+
+returns-7 : tie.Need-returns-7
+returns-7 c =
+    let p = c .before .before .before in
+    let a = p .before .before in
+    let m = a .before .before .before in
+    let f = m .before in
+    let r = f .before in
+    let l = r .before .before in
+    let i = l .before in
+    start _ (plain (i .before .before)) (no-inv i) (right r) (rw (l .lead-of .ensures) at (f .if4 .left)) (rw (l .lead-of .ensures) at (m .if5 .left))
+    _ _ _ _ (zone (a .before .before)) (band a) (sym (place-is p) ∙ c .before .place .given .1) (rw (l .lead-of .ensures))
+
+pub head-of-spec : {M : Type 1} → statement M
+head-of-spec =
+    tie.close
+    (tie.spec
+    has-high-requires
+    returns
+    is-inv-requires
+    returns-2
+    lead-of-requires
+    is-zone-wrong-requires
+    returns-3
+    returns-4
+    returns-5
+    cast-zone
+    shared-slice-read-capital
+    capital-requires
+    bands-of-requires
+    place-of-requires
+    enum-known-place
+    enum-told
+    returns-6
+    add-next
+    returns-7)

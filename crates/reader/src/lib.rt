@@ -1,0 +1,404 @@
+// Reads a reference: bytes to parts, parts to a position, or the number of the rule by which the text is turned away.
+use letters::LetterSet;
+use letters::Place;
+use position::Metres;
+use position::MetresAnswer;
+use position::Position;
+use rows::RowAnswer;
+use scan::Lead;
+use scan::Run;
+ghost use mathlib.Core.Path.{_≡_};
+ghost use mathlib.Core.Bool.{true};
+ghost use Prim.Native.Nat.{_+_, _≤_, _<_};
+ghost use lib.IntN.{pos, negsuc};
+ghost use lib.ListN.{length};
+ghost use lib.Signed.{_≤ℤ_};
+ghost use Rattle.letters.specs.Letters.{firstTile};
+ghost use Rattle.reader.specs.Head.{invLetters, isInv, zoneWrong, headOf};
+ghost use Rattle.reader.specs.Bare.{bareTile, bareEasting, bareNorthing, bareOf};
+ghost use Rattle.reader.specs.Block.{tileOf, utmBlock, blockOf};
+ghost use Rattle.reader.specs.Digits.{digitsOf};
+ghost use Rattle.reader.specs.Read.{squareOf, fullOf, tailOf, readOf};
+ghost use Rattle.position.specs.Metres.{exact};
+ghost use Rattle.reader.specs.Metres.{metresAt, metresRead};
+
+// ---- 1 to 6: up to the band letter
+
+// Where the letters start: the zone, 0 for UPS, the band as a capital, its place in its set, the place after it.
+struct Head {
+    pub zone: i64,
+    pub band: u8,
+    pub place: usize,
+    pub next: usize,
+}
+
+enum HeadAnswer {
+    Start(Head),
+    NoStart(u64),
+}
+
+fn inv_letters(a: u8, b: u8, c: u8) -> bool
+    ensures { λ r. ⌜ r ≡ invLetters a b c ⌝ }
+{
+    if a != b'I' {
+        return false;
+    }
+    if b != b'N' {
+        return false;
+    }
+    c == b'V'
+}
+
+fn is_inv(s: &[u8]) -> bool
+    ensures { λ r. ⌜ r ≡ isInv (now (s .entry)) ⌝ }
+{
+    if s.len() < 3 {
+        return false;
+    }
+    let a = letters::capital(s[0]);
+    let b = letters::capital(s[1]);
+    let c = letters::capital(s[2]);
+    inv_letters(a, b, c)
+}
+
+// No digits are no wrong zone: they are UPS.
+fn is_zone_wrong(lead: Lead) -> bool
+    ensures { λ r. ⌜ r ≡ zoneWrong lead ⌝ }
+{
+    if lead.count == 0 {
+        return false;
+    }
+    if lead.value == 0 {
+        return true;
+    }
+    60 < lead.value
+}
+
+fn head_of(s: &[u8]) -> HeadAnswer
+    ensures { λ r. ⌜ r ≡ headOf (now (s .entry)) ⌝ }
+{
+    if scan::has_high(s) {
+        return HeadAnswer::NoStart(1);
+    }
+    if is_inv(s) {
+        return HeadAnswer::NoStart(2);
+    }
+    let lead = scan::lead_of(s);
+    if is_zone_wrong(lead) {
+        return HeadAnswer::NoStart(3);
+    }
+    let count = lead.count;
+    if 2 < count {
+        return HeadAnswer::NoStart(4);
+    }
+    if s.len() <= count {
+        return HeadAnswer::NoStart(5);
+    }
+    let zone = lead.value as i64;
+    let band = letters::capital(s[count]);
+    let Place::At(place) = letters::place_of(letters::bands_of(zone), band) else {
+        return HeadAnswer::NoStart(6);
+    };
+    let next = count + 1;
+    HeadAnswer::Start(Head {
+        zone,
+        band,
+        place,
+        next,
+    })
+}
+
+// ---- a bare zone
+
+const METRE: i64 = 2_000_000;
+
+const TILE: i64 = 200_000_000_000;
+
+// The tile of the k-th band's middle row.
+fn bare_tile(k: usize) -> i64
+    requires { ⌜ k < 24 ⌝ }
+    ensures { λ r. ⌜ r ≡ bareTile k ⌝ }
+{
+    whole::floor_div((160 * k) as i64 - 1511, 18)
+}
+
+fn bare_easting(zone: i64, band: u8) -> i64
+    ensures { λ r. ⌜ r ≡ bareEasting zone band ⌝ }
+{
+    if zone < 1 {
+        if letters::is_east(band) {
+            return 2_400_000 * METRE;
+        }
+        return 1_600_000 * METRE;
+    }
+    if zone != 31 {
+        return 500_000 * METRE;
+    }
+    if band == b'V' {
+        return 400_000 * METRE;
+    }
+    500_000 * METRE
+}
+
+fn bare_northing(zone: i64, band: u8, k: usize) -> i64
+    requires { ⌜ k < 24 ⌝ }
+    ensures { λ r. ⌜ r ≡ bareNorthing zone band k ⌝ }
+{
+    if zone < 1 {
+        return 2_000_000 * METRE;
+    }
+    let tile = bare_tile(k);
+    if letters::is_north(band) {
+        return tile * TILE;
+    }
+    (tile + 100) * TILE
+}
+
+// The point of a bare zone: supplied, not recorded, and so of p -1.
+fn bare_of(zone: i64, band: u8, k: usize) -> Position
+    requires { ⌜ k < 24 ⌝ }
+    ensures { λ r. ⌜ r ≡ bareOf zone band k ⌝ }
+{
+    let north = letters::is_north(band);
+    let easting = bare_easting(zone, band);
+    let northing = bare_northing(zone, band, k);
+    Position {
+        zone,
+        north,
+        band,
+        p: -1,
+        easting,
+        northing,
+    }
+}
+
+// ---- 8, 9, 10: the block of 100 km
+
+// The tiles of a column and a row letter.
+struct Tiles {
+    pub easting: u8,
+    pub northing: u8,
+}
+
+enum BlockAnswer {
+    Block(Tiles),
+    NoBlock(u64),
+}
+
+// The tile of a letter's place in a set that counts tiles.
+fn tile_at(set: LetterSet, place: usize) -> u8
+    requires { ⌜ place < 24 ⌝ }
+    ensures { λ r. ⌜ r ≡ firstTile set + place ⌝ }
+{
+    (letters::first_tile(set) + place) as u8
+}
+
+// The tile of a signed row: southern rows are negative.
+fn tile_of(row: i64) -> u8
+    requires { ⌜ (negsuc 89 ≤ℤ row) × (row ≤ℤ pos 94) ⌝ }
+    ensures { λ r. ⌜ r ≡ tileOf row ⌝ }
+{
+    if row < 0 {
+        return (row + 100) as u8;
+    }
+    row as u8
+}
+
+// The block of a UTM zone, with the row that the letter means.
+fn utm_block(zone: i64, k: usize, column: usize, letter: usize, easting: u8) -> BlockAnswer
+    requires { ⌜ k < 24 ⌝ }
+    ensures { λ r. ⌜ r ≡ utmBlock zone k column letter easting ⌝ }
+{
+    let band = k as i64 - 10;
+    let RowAnswer::Row(found) = rows::utm_row_at(rows::shift_of(zone), band, column, letter) else {
+        return BlockAnswer::NoBlock(10);
+    };
+    let northing = tile_of(found.row);
+    BlockAnswer::Block(Tiles { easting, northing })
+}
+
+fn block_of(zone: i64, band: u8, k: usize, column: u8, row: u8) -> BlockAnswer
+    requires { ⌜ k < 24 ⌝ }
+    ensures { λ r. ⌜ r ≡ blockOf zone band k column row ⌝ }
+{
+    let columns = letters::columns_of(zone, band);
+    let Place::At(c) = letters::place_of(columns, column) else {
+        return BlockAnswer::NoBlock(8);
+    };
+    let rows = letters::rows_of(zone, letters::is_north(band));
+    let Place::At(l) = letters::place_of(rows, row) else {
+        return BlockAnswer::NoBlock(9);
+    };
+    let easting = tile_at(columns, c);
+    if zone < 1 {
+        let northing = tile_at(rows, l);
+        return BlockAnswer::Block(Tiles { easting, northing });
+    }
+    utm_block(zone, k, c, l, easting)
+}
+
+// ---- 11, 12, 13: the digits
+
+// Digits of each axis, and the two numbers that they spell.
+struct Digits {
+    pub p: i64,
+    pub easting: u64,
+    pub northing: u64,
+}
+
+enum DigitsAnswer {
+    Halves(Digits),
+    NoHalves(u64),
+}
+
+// Each half is read once; where both are digits, all are.
+fn digits_of(s: &[u8]) -> DigitsAnswer
+    ensures { λ r. ⌜ r ≡ digitsOf (now (s .entry)) ⌝ }
+{
+    let n = s.len();
+    let half = n / 2;
+    let Run::Number(easting) = scan::run_of(&s[..half]) else {
+        return DigitsAnswer::NoHalves(11);
+    };
+    let Run::Number(northing) = scan::run_of(&s[half..]) else {
+        return DigitsAnswer::NoHalves(11);
+    };
+    if n % 2 == 1 {
+        return DigitsAnswer::NoHalves(12);
+    }
+    if 22 < n {
+        return DigitsAnswer::NoHalves(13);
+    }
+    let p = half as i64;
+    DigitsAnswer::Halves(Digits {
+        p,
+        easting,
+        northing,
+    })
+}
+
+// ---- parts to position
+
+// What a full reference is made of: the letters are capitals, the numbers are those of the digits.
+pub struct Parts {
+    pub zone: i64,
+    pub band: u8,
+    pub column: u8,
+    pub row: u8,
+    pub p: i64,
+    pub easting: u64,
+    pub northing: u64,
+}
+
+// The centre of the square that the parts name in their tiles.
+fn square_of(parts: Parts, tiles: Tiles) -> Position
+    ensures { λ r. ⌜ r ≡ squareOf parts tiles ⌝ }
+{
+    let north = letters::is_north(parts.band);
+    let easting = position::centre_of(parts.p, tiles.easting, parts.easting);
+    let northing = position::centre_of(parts.p, tiles.northing, parts.northing);
+    Position {
+        zone: parts.zone,
+        north,
+        band: parts.band,
+        p: parts.p,
+        easting,
+        northing,
+    }
+}
+
+// What a text means: a square, a bare zone that is never taken for one, or the number of the rule that it breaks.
+pub enum Answer {
+    Square(Position),
+    Bare(Position),
+    Refused(u64),
+}
+
+// From the column letter on.
+fn full_of(zone: i64, band: u8, k: usize, rest: &[u8]) -> Answer
+    requires { ⌜ (k < 24) × (2 ≤ length (now rest)) ⌝ }
+    ensures { λ r. ⌜ r ≡ fullOf zone band k (now (rest .entry)) ⌝ }
+{
+    let column = letters::capital(rest[0]);
+    let row = letters::capital(rest[1]);
+    match block_of(zone, band, k, column, row) {
+        BlockAnswer::NoBlock(n) => Answer::Refused(n),
+        BlockAnswer::Block(tiles) => match digits_of(&rest[2..]) {
+            DigitsAnswer::NoHalves(n) => Answer::Refused(n),
+            DigitsAnswer::Halves(d) => {
+                let parts = Parts {
+                    zone,
+                    band,
+                    column,
+                    row,
+                    p: d.p,
+                    easting: d.easting,
+                    northing: d.northing,
+                };
+                Answer::Square(square_of(parts, tiles))
+            }
+        },
+    }
+}
+
+// From the byte after the band on: a bare zone, 7 to 13 or a square.
+fn tail_of(zone: i64, band: u8, k: usize, rest: &[u8]) -> Answer
+    requires { ⌜ k < 24 ⌝ }
+    ensures { λ r. ⌜ r ≡ tailOf zone band k (now (rest .entry)) ⌝ }
+{
+    let n = rest.len();
+    if n == 0 {
+        return Answer::Bare(bare_of(zone, band, k));
+    }
+    if n == 1 {
+        return Answer::Refused(7);
+    }
+    full_of(zone, band, k, rest)
+}
+
+// Reads any bytes.
+pub fn read(text: &[u8]) -> Answer
+    ensures { λ r. ⌜ r ≡ readOf (now (text .entry)) ⌝ }
+{
+    match head_of(text) {
+        HeadAnswer::NoStart(n) => Answer::Refused(n),
+        HeadAnswer::Start(head) => {
+            let next = head.next;
+            tail_of(head.zone, head.band, head.place, &text[next..])
+        }
+    }
+}
+
+// ---- metres
+
+// The same in metres: a square, a bare zone, or the number.
+pub enum MetresRead {
+    SquareMetres(Metres),
+    BareMetres(Metres),
+    Refused(u64),
+}
+
+// The metres of a position that was read. None is too far to be exact: the second arm is proved never to be taken.
+fn metres_at(q: Position) -> Metres
+    requires { ⌜ (exact (q .easting) ≡ true) × (exact (q .northing) ≡ true) ⌝ }
+    ensures { λ r. ⌜ r ≡ metresAt q ⌝ }
+{
+    match position::metres_of(q.easting, q.northing) {
+        MetresAnswer::Exact(m) => m,
+        MetresAnswer::TooLarge => Metres {
+            easting: 0.0,
+            northing: 0.0,
+        },
+    }
+}
+
+// Reads any bytes, and answers in metres.
+pub fn read_metres(text: &[u8]) -> MetresRead
+    ensures { λ r. ⌜ r ≡ metresRead (now (text .entry)) ⌝ }
+{
+    match read(text) {
+        Answer::Square(q) => MetresRead::SquareMetres(metres_at(q)),
+        Answer::Bare(q) => MetresRead::BareMetres(metres_at(q)),
+        Answer::Refused(n) => MetresRead::Refused(n),
+    }
+}
