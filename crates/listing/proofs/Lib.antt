@@ -1,0 +1,4 @@
+pub mod Numerals
+pub mod Texts
+pub mod Fit
+pub mod Unique

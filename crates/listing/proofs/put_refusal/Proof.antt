@@ -1,0 +1,56 @@
+-- `listing::put_refusal` meets its contract: its fields in front of the line feed, which stands at the buffer's end.
+-- Assumes nothing.
+use mathlib.Core.Path.{_≡_, refl, sym, ap, _∙_}
+use Prim.Native.Nat.{ℕ, _≤_}
+use native.Mathlib.Omega.{arith}
+use lib.ListN.{length, drop-of-length-le}
+use Rattle.listing.proofs.Texts.{refusal-made}
+use borrow.Author.Needs.{needs}
+use Rattle.listing.proofs.put_refusal.Statement.{statement}
+use Rattle.listing.proofs.put_refusal.Tie as tie
+
+put-requires : tie.Need-put-requires
+put-requires c κs = search needs
+
+put-number-requires : tie.Need-put-number-requires
+put-number-requires c κs = search needs
+
+put-requires-2 : tie.Need-put-requires-2
+put-requires-2 c κs = search needs
+
+put-letter-requires : tie.Need-put-letter-requires
+put-letter-requires c κs = search needs
+
+put-number-requires-2 : tie.Need-put-number-requires-2
+put-number-requires-2 c κs = search needs
+
+same-length : tie.Need-same-length
+same-length c = search needs
+
+returns : tie.Need-returns
+returns c =
+    let e = c .before .before in
+    let d = e .before .before .before .before in
+    let g = d .before .before .before .before in
+    let b = g .before .before .before .before in
+    let a = b .before .before .before .before in
+    let s = a .before .before .before in
+    let n : length (s .args .line .now) ≤ 128 = omega (arith, s .pre) in
+    let v = a .put .ensures in
+    let w = b .put-number .ensures in
+    let x = g .put2 .ensures in
+    let y = d .put-letter .ensures in
+    let z = e .put-number2 .ensures in
+    (omega (arith, v .0, w .1, x .0, y .0, z .1), refusal-made (s .args .number) (s .args .k) _ _ _ _ _ _ (drop-of-length-le (s .args .line .now) n) (v .1) (w .2) (x .1) (y .1) (z .2))
+
+pub put-refusal-spec : {M : Type 1} → statement M
+put-refusal-spec =
+    tie.close
+    (tie.spec
+    put-requires
+    put-number-requires
+    put-requires-2
+    put-letter-requires
+    put-number-requires-2
+    same-length
+    returns)

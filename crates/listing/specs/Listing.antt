@@ -1,0 +1,62 @@
+-- One line of the listing: document 01, "Listing program". Assumes nothing.
+use mathlib.Core.Bool.{Bool, cond}
+use mathlib.Core.List.{List, [], _∷_, _++_}
+use Prim.Native.Nat.{ℕ}
+use Prim.Native.Char.{code}
+use lib.Dec.{ltb}
+use lib.ListN.{length, drop}
+use Rattle.position.specs.declared.Position.{Position}
+use Rattle.reader.specs.declared.Answer.{Answer}
+use Rattle.reader.specs.declared.Answer.the-variants.{Square, Bare, Refused}
+use Rattle.reader.specs.Read.{readOf}
+use Rattle.listing.specs.declared.Listed.{Listed}
+use Rattle.listing.specs.declared.Listed.the-variants.{Length, Refused as NotListed}
+use Rattle.listing.specs.Numerals.{decimal, signed}
+
+-- "one space stands between fields": a space and a field.
+abbrev pub field : List ℕ → List ℕ
+field t = code " " ∷ t
+
+abbrev pub letter : ℕ → List ℕ
+letter b = field (b ∷ [])
+
+-- "Each line out, ended by LF"
+abbrev pub lineFeed : List ℕ
+lineFeed = 10 ∷ []
+
+-- "N or S"
+abbrev pub sideOf : Bool → ℕ
+sideOf north = cond north (code "N") (code "S")
+
+-- "line number, zone, N or S, band ..
+unfoldable pub zoneText : ℕ → Position → List ℕ
+zoneText number q = decimal number ++ (field (signed (q .zone)) ++ (letter (sideOf (q .north)) ++ letter (q .band)))
+
+-- .. p, easting units, northing units"
+unfoldable pub unitsText : Position → List ℕ
+unitsText q = field (signed (q .p)) ++ (field (signed (q .easting)) ++ (field (signed (q .northing)) ++ lineFeed))
+
+-- "or line number, R, refusal"
+unfoldable pub refusalText : ℕ → ℕ → List ℕ
+refusalText number k = decimal number ++ (letter (code "R") ++ (field (decimal k) ++ lineFeed))
+
+abbrev pub textOf : ℕ → Answer → List ℕ
+textOf number (Square q) = zoneText number q ++ unitsText q
+textOf number (Bare q) = zoneText number q ++ unitsText q
+textOf number (Refused k) = refusalText number k
+
+-- "a line over 64 bytes, its LF aside, gives 23 before any reading"
+unfoldable pub answerOf : List ℕ → Answer
+answerOf s = cond (ltb 64 (length s)) (Refused 23) (readOf s)
+
+-- The line of a text, under its number.
+unfoldable pub lineOf : ℕ → List ℕ → List ℕ
+lineOf number s = textOf number (answerOf s)
+
+-- "20 output too short": else the line's length, of a buffer of m bytes.
+unfoldable pub fitOf : List ℕ → ℕ → Listed
+fitOf t m = cond (ltb m (length t)) (NotListed 20) (Length (length t))
+
+-- "bytes beyond it stay. A refusal alters no lent byte.": what the buffer then holds.
+unfoldable pub leavesOf : List ℕ → List ℕ → List ℕ
+leavesOf t l = cond (ltb (length l) (length t)) l (t ++ drop (length t) l)
