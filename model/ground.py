@@ -200,12 +200,17 @@ def line(name, words):
     return {**calls, "floor": floor, "folded": capital}[name](*args)
 
 
-source = open("crates/ground/src/main.rt").read()
-lines = []
-for group in re.findall(r"^    (\w+)\(\);", source[source.index("fn main()") :], re.M):
-    body = re.search(r"fn %s\(\) \{\n(.*?)\n\}" % group, source, re.S).group(1)
-    for name, words in re.findall(r"^    (\w+)\((.*?)\);$", body, re.M | re.S):
-        lines.append(line(name, words))
-with open("crates/ground/stdout", "w") as out:
-    out.write("\n".join(lines) + "\n")
-print(len(lines), "lines")
+def main():
+    source = open("crates/ground/src/main.rt").read()
+    lines = []
+    for group in re.findall(r"^    (\w+)\(\);", source[source.index("fn main()") :], re.M):
+        body = re.search(r"fn %s\(\) \{\n(.*?)\n\}" % group, source, re.S).group(1)
+        for name, words in re.findall(r"^    (\w+)\((.*?)\);$", body, re.M | re.S):
+            lines.append(line(name, words))
+    with open("crates/ground/stdout", "w") as out:
+        out.write("\n".join(lines) + "\n")
+    print(len(lines), "lines")
+
+
+if __name__ == "__main__":
+    main()
