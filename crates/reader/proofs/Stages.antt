@@ -4,7 +4,7 @@ use mathlib.Core.Bool.{Bool, true, false, cond, not}
 use mathlib.Core.List.{List}
 use Prim.Native.Nat.{ℕ, _+_, _<_, _≤_}
 use native.Mathlib.Omega.{arith}
-use borrow.Author.Tests.{ltb-false, leb-false}
+use borrow.Author.Tests.{ltb-false, leb-false, eqb-true}
 use lib.Dec.{eqb, ltb, leb}
 use lib.IntN.{ℤ, pos}
 use lib.Signed.{ltZ}
@@ -144,6 +144,7 @@ pub record Squared (s : List ℕ) (q : Position) : Type 0 where
 pub record Bared (s : List ℕ) (q : Position) : Type 0 where
   pub head : Head
   pub is-head : headOf s ≡ Start head
+  pub ends : length (restOf s head) ≡ 0
   pub is : q ≡ bareOf (head .zone) (head .band) (head .place)
 
 module _ (s : List ℕ) (q : Position) where
@@ -174,14 +175,14 @@ module _ (s : List ℕ) (q : Position) where
         let b = past (eqb (length (restOf s h)) 1) _ _ _ (λ n. clash (cc)) (a .1) in
         by-stages block digits refl refl (b .1)
 
-    bare-by : (t : Bool) (y : Answer) → cond t (Bare (bareOf (h .zone) (h .band) (h .place))) y ≡ Bare q → (y ≡ Bare q → ⊥) → Bared s q
-    bare-by true y x n = record { head = h; is-head = e; is = cc }
-    bare-by false y x n = absurd (n x)
+    bare-by : (t : Bool) (y : Answer) → eqb (length (restOf s h)) 0 ≡ t → cond t (Bare (bareOf (h .zone) (h .band) (h .place))) y ≡ Bare q → (y ≡ Bare q → ⊥) → Bared s q
+    bare-by true y z x n = record { head = h; is-head = e; ends = eqb-true _ 0 z; is = cc }
+    bare-by false y z x n = absurd (n x)
 
     bare-tail : tailOf (h .zone) (h .band) (h .place) (restOf s h) ≡ Bare q → Bared s q
     unfolding tailOf fullOf
     bare-tail x =
-        bare-by (eqb (length (restOf s h)) 0) _ x
+        bare-by (eqb (length (restOf s h)) 0) _ refl x
         (λ y. never-bare block digits (past (eqb (length (restOf s h)) 1) _ _ _ (λ n. clash (cc)) y .1))
 
   from-head : (a : HeadAnswer) → headOf s ≡ a → begun a (λ h. tailOf (h .zone) (h .band) (h .place) (restOf s h)) ≡ Square q → Squared s q

@@ -25,14 +25,14 @@ ghost use Rattle.reader.specs.Metres.{metresAt, metresRead};
 // ---- 1 to 6: up to the band letter
 
 // Where the letters start: the zone, 0 for UPS, the band as a capital, its place in its set, the place after it.
-struct Head {
+pub struct Head {
     pub zone: i64,
     pub band: u8,
     pub place: usize,
     pub next: usize,
 }
 
-enum HeadAnswer {
+pub enum HeadAnswer {
     Start(Head),
     NoStart(u64),
 }
@@ -175,12 +175,12 @@ fn bare_of(zone: i64, band: u8, k: usize) -> Position
 // ---- 8, 9, 10: the block of 100 km
 
 // The tiles of a column and a row letter.
-struct Tiles {
+pub struct Tiles {
     pub easting: u8,
     pub northing: u8,
 }
 
-enum BlockAnswer {
+pub enum BlockAnswer {
     Block(Tiles),
     NoBlock(u64),
 }
@@ -240,13 +240,13 @@ fn block_of(zone: i64, band: u8, k: usize, column: u8, row: u8) -> BlockAnswer
 // ---- 11, 12, 13: the digits
 
 // Digits of each axis, and the two numbers that they spell.
-struct Digits {
+pub struct Digits {
     pub p: i64,
     pub easting: u64,
     pub northing: u64,
 }
 
-enum DigitsAnswer {
+pub enum DigitsAnswer {
     Halves(Digits),
     NoHalves(u64),
 }

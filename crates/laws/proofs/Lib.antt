@@ -1,0 +1,4 @@
+pub mod Accept
+pub mod Centre
+pub mod Bare
+pub mod Starred

@@ -1,0 +1,5 @@
+pub mod Sound
+pub mod Centre
+pub mod Bare
+pub mod Tables
+pub mod Starred
