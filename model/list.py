@@ -1,8 +1,8 @@
 #!/usr/bin/env python3
 """Document 01's reader and listing once more, plainly, in exact whole numbers.
 
-    model/list.py          writes crates/list/stdin, crates/list/stdout and crates/in_metres/stdout, to which the gate holds
-                           the two programs
+    model/list.py          writes crates/list/stdin, and the stdout of list, in_metres and in_buffers, to which the gate holds
+                           the three programs
     model/list.py FILE     writes the listing of FILE to standard output
 
 It shares nothing with the crates. The letters and the rows are those of model/ground.py.
@@ -77,16 +77,17 @@ def read(text):
     return zone, side, band, p, *centre
 
 
+def line(number, text):
+    answer = 23 if len(text) > 64 else read(text)
+    fields = ("R", answer) if isinstance(answer, int) else answer
+    return " ".join(str(f) for f in (number, *fields)) + "\n"
+
+
 def listing(data):
     lines = data.split(b"\n")
     if lines[-1] == b"":
         lines.pop()
-    out = []
-    for number, line in enumerate(lines, 1):
-        answer = 23 if len(line) > 64 else read(line)
-        fields = ("R", answer) if isinstance(answer, int) else answer
-        out.append(" ".join(str(f) for f in (number, *fields)) + "\n")
-    return "".join(out).encode()
+    return "".join(line(number, text) for number, text in enumerate(lines, 1)).encode()
 
 
 # Document 01's example of the listing, then its references of reading, in its order.
@@ -98,10 +99,10 @@ REFERENCES = """18TWL856641113154 27UXQ0314512982 YXL6143481146 4qfj 18T 31V Z 3
 RULES = [
     "18TWL" + "1" * 22, "18TWL" + "1" * 23, "18TWL" + "1" * 24, "18TWL" + "9" * 22, "18TWL" + "0" * 22, "18TWL1", "18TWL12",
     "18TWL123", "18TWL1234", "18TWAX", "18TWA1", "18TWA" + "1" * 24, "18TWLX1", "18TWL1X", "18TWL" + "1" * 23 + "X", "18TWL12 34",
-    "18TWLX" + "1" * 30, "INV", "iNv", "INVALID", "INV18T", "IN", "INW", "18INV", " INV", "0018T", "00", "000", "060T", "60X", "61X",
+    "18TWLX" + "1" * 30, "18TWL1X2", "18TWL88", "INV", "iNv", "INVALID", "INV18T", "IN", "INW", "18INV", " INV", "0018T", "00", "000", "060T", "60X", "61X",
     "99T", "100T", "001T", "0T", "00T", "1", "01", "1C", "01C", "60", "9", "Z", "z", "A", "B", "Y", "C", "I", "O", "N", "18A", "18B", "18Y",
     "18Z", "18O", "18i", "1A", "18tWl", "18TwL12", "18TWI", "18TWO", "18TWX", "18TIL", "18TOL", "AZ", "AJA", "AAA", "AZZ", "AJI", "ADA",
-    "BAA", "BRZ", "BSA", "YRA", "YZP", "YZQ", "YJA", "ZAA", "ZJP", "ZJQ", "ZKA", "ZAH12", "BAN1234567890", "zah1234567890123456789012",
+    "BAA", "BRZ", "BSA", "YRA", "YZP", "YZQ", "YJA", "ZAA", "ZJP", "ZJQ", "ZAQ", "ZKA", "ZAH12", "BAN1234567890", "zah1234567890123456789012",
     "4294967314TWL", "18446744073709551634TWL", "184467440737095516161T", "1" * 40 + "T", "0" * 63 + "1", "0" * 62 + "1T", "18T 18TWL",
     "18TWL-1", "18TWL+1", "18TWL1.5", "+18T", "-1T", "1 8T", "18,T", "18TWL\x00", "\x00", "\x0018T", "18T\x00", "18\x00T", "18TWL12\x0034",
     "18T\r", "18TWL\r", "18TWL12\r", "\r", " ", "18T ", " 18T", "18TWL/0", "18TWL:0", "18TWL0/", "18TWL0:", "18@", "18[", "18`", "18{", "@", "[",
@@ -145,6 +146,18 @@ def metres():
     return "".join(out)
 
 
+def buffers():
+    """What in_buffers prints: each line in a buffer of dots, or the buffer as it was."""
+    source = open("crates/in_buffers/src/main.rt").read()
+    out = []
+    for size, text, number in re.findall(r"= \[b'.'; (\d+)\];\n    shown\(b\"(.*?)\", ([\d_]+),", source):
+        put, size = line(int(number), text.encode()), int(size)
+        fits = len(put) <= size
+        said = f"length {len(put)} [{put}{'.' * (size - len(put))}]" if fits else f"R 20 [{'.' * size}]"
+        out.append(f"{text} {said}\n")
+    return "".join(out)
+
+
 def main():
     if len(sys.argv) > 1:
         sys.stdout.buffer.write(listing(open(sys.argv[1], "rb").read()))
@@ -154,6 +167,7 @@ def main():
     open(os.path.join(folder, "stdin"), "wb").write(data)
     open(os.path.join(folder, "stdout"), "wb").write(listing(data))
     open(os.path.join("crates", "in_metres", "stdout"), "w").write(metres())
+    open(os.path.join("crates", "in_buffers", "stdout"), "w").write(buffers())
     print(len(data), "bytes,", len(listing(data).splitlines()), "lines")
 
 
