@@ -1,15 +1,13 @@
 -- Acceptance: a sound text is read as a square exactly if an allowed row of its letter exists, that row is the one
 -- answered, and there is only one; where there is none the answer is 10. A sound UPS text is always read. Assumes nothing.
-use mathlib.Core.Path.{_≡_, refl, sym, ap, _∙_}
-use mathlib.Core.Bool.{Bool, true, false}
+use mathlib.Core.Path.{_≡_, refl, sym, _∙_}
 use mathlib.Core.Logic.{_↔_}
 use mathlib.Core.List.{List}
-use Prim.Native.Nat.{ℕ, _+_, _≤_}
+use Prim.Native.Nat.{ℕ, _+_}
 use native.Mathlib.Omega.{arith}
 use borrow.Author.Tests.{ne-eqb}
-use lib.Dec.{eqb}
-use lib.IntN.{ℤ, pos, _-ℤ_}
-use lib.ListN.{length, drop}
+use lib.IntN.{pos, _-ℤ_}
+use lib.ListN.{length}
 use Rattle.whole.proofs.Parts.{clash}
 use Rattle.letters.specs.Letters.{firstTile}
 use Rattle.letters.specs.Sets.{columnsOf, rowsOf, northBand}
@@ -18,11 +16,10 @@ use Rattle.rows.specs.declared.RowAnswer.the-variants.{Row, Nothing}
 use Rattle.rows.specs.Letters.{shiftOf}
 use Rattle.rows.specs.Resolve.{resolve}
 use Rattle.rows.proofs.Theorems.{found, answered, nothing, unique}
-use Rattle.reader.specs.declared.Answer.{Answer}
-use Rattle.reader.specs.declared.Answer.the-variants.{Square, Bare, Refused}
+use Rattle.reader.specs.declared.Answer.the-variants.{Square, Refused}
 use Rattle.reader.specs.Head.{letterIn}
 use Rattle.reader.specs.Block.{tileOf, tilesOf, onRow, utmBlock, blockOf}
-use Rattle.reader.specs.Read.{blocked, halved, partsOf, squareOf, fullOf, tailOf, readOf}
+use Rattle.reader.specs.Read.{blocked, partsOf, squareOf, fullOf, tailOf, readOf}
 use Rattle.laws.specs.Sound.{restOf, Sound, Utm, Ups, HasRow, Accepted, squareIn}
 
 module _ (s : List ℕ) (o : Sound s) where

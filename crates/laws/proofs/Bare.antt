@@ -1,6 +1,6 @@
 -- A text is read as a bare zone exactly if it ends at its band, and then stands at the point of document 01's formulas.
 -- Nothing else is supplied: what is read as a square has both coordinates in its text. Assumes nothing.
-use mathlib.Core.Path.{_≡_, ap, sym, _∙_}
+use mathlib.Core.Path.{_≡_, sym, _∙_}
 use mathlib.Core.Logic.{_↔_}
 use mathlib.Core.List.{List}
 use Prim.Native.Nat.{ℕ}

@@ -1,10 +1,8 @@
 -- Every square that is read is centred as document 01 says, once over p. Assumes nothing.
-use mathlib.Core.Path.{_≡_, refl, sym, ap, _∙_}
+use mathlib.Core.Path.{_≡_, ap, _∙_}
 use mathlib.Core.List.{List}
 use Prim.Native.Nat.{ℕ, _^_, _≤_, _<_}
 use lib.IntN.{ℤ, pos}
-use lib.ListN.{take, drop}
-use Rattle.scan.specs.Scan.{valueOf}
 use Rattle.position.specs.declared.Position.{Position}
 use Rattle.position.specs.Squares.{centreOf, centre, numberOf}
 use Rattle.position.proofs.Squares.{centre-at}

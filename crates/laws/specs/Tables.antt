@@ -7,7 +7,7 @@ use Prim.Native.String.{String}
 use lib.IntN.{pos, negsuc}
 use Rattle.whole.specs.Text.{bytes}
 use Rattle.reader.specs.declared.Answer.{Answer}
-use Rattle.reader.specs.declared.Answer.the-variants.{Square, Bare, Refused}
+use Rattle.reader.specs.declared.Answer.the-variants.{Square, Bare}
 use Rattle.reader.specs.Read.{readOf}
 
 -- A square of zone, north, band, p, and easting and northing in centimetres: 20,000 units to each.

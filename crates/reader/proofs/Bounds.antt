@@ -1,16 +1,14 @@
 -- How large tiles and units are, so that sums fit and casts to f64 are exact. Assumes nothing.
-use mathlib.Core.Path.{_≡_, refl, sym, _∙_, ap}
-use mathlib.Core.Bool.{Bool, true, false, cond}
-use Prim.Native.Nat.{ℕ, _+_, _-_, _*_, _≤_, _<_}
+use mathlib.Core.Path.{_≡_, refl}
+use mathlib.Core.Bool.{true, false}
+use Prim.Native.Nat.{ℕ, _-_, _*_, _<_}
 use native.Mathlib.Omega.{arith}
 use borrow.Author.Tests.{ltb-true}
 use lib.Dec.{lit<}
 use lib.IntN.{ℤ, pos, negsuc, _+ℤ_, _-ℤ_}
 use lib.Signed.{ltZ, _≤ℤ_}
-use mir.Syntax.{w64}
-use mir.Val.{SFits}
 use Rattle.whole.proofs.Parts.{up, dn, clash, eq-by, add-parts, ≤ℤ-parts}
-use Rattle.whole.proofs.Small.{Small, fits, computed, count, sum, difference, product, quotient}
+use Rattle.whole.proofs.Small.{Small, computed, count, sum, difference, quotient}
 use Rattle.position.specs.Ranges.{tiles}
 use Rattle.reader.specs.Bare.{bareTile}
 use Rattle.reader.specs.Block.{tileOf}

@@ -2,7 +2,7 @@
 use mathlib.Core.Path.{_≡_, refl, sym, ap, _∙_}
 use mathlib.Core.Bool.{Bool, true, false, cond, not, _&&_}
 use mathlib.Core.List.{List}
-use Prim.Native.Nat.{ℕ, _+_, _-_, _*_, _/_, _%_, _^_, _≤_, _<_}
+use Prim.Native.Nat.{ℕ, _+_, _*_, _/_, _%_, _^_, _≤_, _<_}
 use native.Mathlib.Omega.{arith}
 use borrow.Author.Tests.{ltb-false, eqb-false, not-false}
 use lib.Dec.{eqb, ltb, lit≤}
@@ -12,7 +12,7 @@ use lib.ListN.{length, take, drop, length-take, length-drop}
 use Rattle.whole.specs.Compare.{isNumber}
 use Rattle.whole.proofs.Parts.{clash}
 use Rattle.whole.proofs.Small.{Small, computed, count, product}
-use Rattle.letters.specs.Letters.{placeOf, firstTile}
+use Rattle.letters.specs.Letters.{firstTile}
 use Rattle.letters.specs.Sets.{columnsOf, rowsOf, northBand, eastBand}
 use Rattle.letters.proofs.Laws.{first-le}
 use Rattle.rows.specs.declared.RowAnswer.{RowAnswer}
@@ -25,14 +25,13 @@ use Rattle.scan.specs.Scan.{allDigits, valueOf}
 use Rattle.scan.proofs.Laws.{and-left, and-right, all-split, number-lt}
 use Rattle.position.specs.declared.Position.{Position}
 use Rattle.position.specs.Ranges.{tiles}
-use Rattle.position.specs.Squares.{centreOf, centre, numberOf}
+use Rattle.position.specs.Squares.{centreOf}
 use Rattle.position.proofs.Squares.{centre-at, centre-split, in-tile}
 use Rattle.position.proofs.Exact.{Exactly}
 use Rattle.reader.specs.declared.Tiles.{Tiles}
-use Rattle.reader.specs.declared.BlockAnswer.{BlockAnswer}
-use Rattle.reader.specs.declared.BlockAnswer.the-variants.{Block, NoBlock}
+use Rattle.reader.specs.declared.BlockAnswer.the-variants.{Block}
 use Rattle.reader.specs.declared.Digits.{Digits}
-use Rattle.reader.specs.declared.DigitsAnswer.the-variants.{Halves, NoHalves}
+use Rattle.reader.specs.declared.DigitsAnswer.the-variants.{Halves}
 use Rattle.reader.specs.declared.Answer.the-variants.{Square, Bare}
 use Rattle.reader.specs.Bare.{metres, bareTile, bareEasting, bareNorthing, bareOf}
 use Rattle.reader.specs.Block.{tileOf, tilesOf, onRow, utmBlock, blockOf}

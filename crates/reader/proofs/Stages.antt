@@ -2,13 +2,14 @@
 use mathlib.Core.Path.{_≡_, refl, sym, ap, _∙_}
 use mathlib.Core.Bool.{Bool, true, false, cond, not}
 use mathlib.Core.List.{List}
-use Prim.Native.Nat.{ℕ, _+_, _<_, _≤_}
+use Prim.Native.Nat.{ℕ, _+_, _-_, _<_, _≤_}
 use native.Mathlib.Omega.{arith}
 use borrow.Author.Tests.{ltb-false, leb-false, eqb-true}
 use lib.Dec.{eqb, ltb, leb}
 use lib.IntN.{ℤ, pos}
 use lib.Signed.{ltZ}
-use lib.ListN.{length, drop}
+use lib.ListN.{length, take, drop, length-drop}
+use lib.Seq.{take-all}
 use Rattle.whole.proofs.Parts.{clash}
 use Rattle.letters.specs.declared.Place.{Place}
 use Rattle.letters.specs.declared.Place.the-variants.{At, NotInSet}
@@ -27,7 +28,7 @@ use Rattle.reader.specs.declared.Digits.{Digits}
 use Rattle.reader.specs.declared.DigitsAnswer.{DigitsAnswer}
 use Rattle.reader.specs.declared.DigitsAnswer.the-variants.{Halves, NoHalves}
 use Rattle.reader.specs.declared.Answer.{Answer}
-use Rattle.reader.specs.declared.Answer.the-variants.{Square, Bare, Refused}
+use Rattle.reader.specs.declared.Answer.the-variants.{Square, Bare}
 use Rattle.reader.specs.Head.{letterIn, isInv, zoneWrong, headOf}
 use Rattle.reader.specs.Bare.{bareOf}
 use Rattle.reader.specs.Block.{tilesOf, utmBlock, blockOf}
@@ -48,6 +49,10 @@ pub record At-place {A : Type 0} (place : Place) (at : ℕ → A) (y : A) : Type
 pub in-set : {A : Type 0} (place : Place) (x : A) (at : ℕ → A) (y : A) → (x ≡ y → ⊥) → byPlace place x at ≡ y → At-place place at y
 in-set NotInSet x at y n e = absurd (n e)
 in-set (At k) x at y n e = record { k = k; is = refl; then = e }
+
+-- a part of a slice that goes to its end
+pub rest : (s : List ℕ) (n : ℕ) → take (length s - n) (drop n s) ≡ drop n s
+rest s n = take-all (length s - n) (drop n s) (omega (arith, length-drop n s))
 
 -- every place is below 24
 pub place-lt : (set : _) (b k : ℕ) → placeOf set b ≡ At k → k < 24

@@ -3,7 +3,7 @@ use mathlib.Core.Bool.{cond, _&&_}
 use Prim.Native.Nat.{ℕ, _*_}
 use Prim.Native.Char.{code}
 use lib.Dec.{eqb}
-use lib.IntN.{ℤ, pos, negsuc, _+ℤ_, _-ℤ_, _*ℤ_}
+use lib.IntN.{ℤ, pos, negsuc, _+ℤ_, _-ℤ_}
 use lib.Signed.{ltZ}
 use Rattle.whole.specs.Compare.{isNumber}
 use Rattle.whole.specs.Floor.{floorDiv}

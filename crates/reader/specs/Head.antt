@@ -4,13 +4,12 @@ use mathlib.Core.List.{List}
 use Prim.Native.Nat.{ℕ, _+_}
 use Prim.Native.Char.{code}
 use lib.Dec.{eqb, ltb, leb}
-use lib.IntN.{ℤ, pos}
+use lib.IntN.{pos}
 use lib.ListN.{length, getD}
 use Rattle.letters.specs.Letters.{capitalOf, placeOf, byPlace}
 use Rattle.letters.specs.Sets.{bandsOf}
 use Rattle.scan.specs.declared.Lead.{Lead}
 use Rattle.scan.specs.Scan.{hasHigh, leadOf}
-use Rattle.reader.specs.declared.Head.{Head}
 use Rattle.reader.specs.declared.HeadAnswer.{HeadAnswer}
 use Rattle.reader.specs.declared.HeadAnswer.the-variants.{Start, NoStart}
 

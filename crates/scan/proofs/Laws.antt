@@ -12,7 +12,6 @@ use lib.ListN.{length, getD, take, drop, drop-of-length-le}
 use lib.Seq.{drop-cons}
 use Rattle.whole.proofs.Parts.{clash}
 use Rattle.whole.proofs.Powers.{ten-le}
-use Rattle.scan.specs.declared.Run.{Run}
 use Rattle.scan.specs.declared.Run.the-variants.{Number, NotDigits}
 use Rattle.scan.specs.Scan.{isDigit, allDigits, valueFrom, valueOf, leadingDigits, runOf}
 

@@ -1,6 +1,5 @@
 -- `listing::answer_of` meets its contract, by what `read` ensures.
 -- Assumes nothing.
-use mathlib.Core.Path.{_≡_}
 use borrow.Author.Needs.{needs}
 use borrow.Author.Tests.{lt-ltb, le-ltb}
 use Rattle.listing.specs.Listing.{answerOf}

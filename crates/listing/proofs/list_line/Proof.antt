@@ -1,6 +1,6 @@
 -- `listing::list_line` meets its contract: the line stands at the end of 128 bytes, and is copied where it fits.
 -- Assumes nothing.
-use mathlib.Core.Path.{_≡_, refl, sym, ap, _∙_}
+use mathlib.Core.Path.{_≡_, refl}
 use Rattle.listing.specs.Listing.{lineOf}
 use Rattle.listing.proofs.Texts.{short, fits}
 use borrow.Author.Needs.{needs}

@@ -1,6 +1,5 @@
 -- `listing::put_answer` meets its contract, by what is put for each answer.
 -- Assumes nothing.
-use mathlib.Core.Path.{_≡_, refl, sym, ap, _∙_}
 use borrow.Author.Needs.{needs}
 use Rattle.listing.proofs.put_answer.Statement.{statement}
 use Rattle.listing.proofs.put_answer.Tie as tie

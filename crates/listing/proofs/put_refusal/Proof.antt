@@ -1,7 +1,6 @@
 -- `listing::put_refusal` meets its contract: its fields in front of the line feed, which stands at the buffer's end.
 -- Assumes nothing.
-use mathlib.Core.Path.{_≡_, refl, sym, ap, _∙_}
-use Prim.Native.Nat.{ℕ, _≤_}
+use Prim.Native.Nat.{_≤_}
 use native.Mathlib.Omega.{arith}
 use lib.ListN.{length, drop-of-length-le}
 use Rattle.listing.proofs.Texts.{refusal-made}

@@ -1,6 +1,5 @@
 -- `reader::bare_of` meets its contract, by what the functions of its coordinates ensure.
 -- Assumes nothing.
-use mathlib.Core.Path.{_≡_, _∙_}
 use borrow.Author.Needs.{needs}
 use mir.Facts.{toZ-ofZ}
 use Rattle.whole.proofs.Signed.{back}

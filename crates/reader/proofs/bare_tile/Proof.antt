@@ -1,13 +1,13 @@
 -- `reader::bare_tile` meets its contract, by what `floor_div` ensures; the numbers are small.
 -- Assumes nothing.
-use mathlib.Core.Path.{_≡_, _∙_}
+use mathlib.Core.Path.{_≡_}
 use Prim.Native.Nat.{_*_}
 use native.Mathlib.Omega.{arith}
 use borrow.Author.Needs.{needs}
 use lib.Dec.{lit≤}
-use lib.IntN.{pos, _-ℤ_}
+use lib.IntN.{pos}
 use mir.Syntax.{w64}
-use mir.Val.{SFits, toZ, ofZ}
+use mir.Val.{toZ}
 use mir.Facts.{toZ-ofZ, toZ-pos}
 use Rattle.whole.proofs.Signed.{back}
 use Rattle.whole.proofs.Small.{fits}

@@ -3,26 +3,22 @@
 use mathlib.Core.Path.{_≡_, refl, sym, _∙_}
 use mathlib.Core.Bool.{Bool, true, false, _&&_}
 use mathlib.Core.List.{List}
-use Prim.Native.Nat.{ℕ, _-_, _/_, _%_, _≤_, _<_}
+use Prim.Native.Nat.{ℕ, _/_, _%_, _≤_, _<_}
 use native.Mathlib.Omega.{arith}
 use borrow.Author.Needs.{needs}
 use borrow.Author.Tests.{eq-eqb, ne-eqb, lt-ltb, le-ltb}
 use lib.ListN.{length, take, drop, length-take, length-drop}
-use lib.Seq.{take-all}
 use lib.IntN.{ℤ, pos}
 use mir.Syntax.{w64}
 use mir.Facts.{toZ-pos}
 use Rattle.scan.specs.declared.Run.the-variants.{Number, NotDigits}
-use Rattle.scan.specs.Scan.{allDigits, valueOf, runOf}
+use Rattle.scan.specs.Scan.{allDigits, runOf}
 use Rattle.scan.proofs.Laws.{all-split, run-no, run-yes, uncut}
 use Rattle.reader.specs.declared.DigitsAnswer.the-variants.{Halves, NoHalves}
 use Rattle.reader.specs.Digits.{digitsOf}
+use Rattle.reader.proofs.Stages.{rest}
 use Rattle.reader.proofs.digits_of.Statement.{statement}
 use Rattle.reader.proofs.digits_of.Tie as tie
-
--- the second half is all that is left
-rest : (s : List ℕ) (n : ℕ) → take (length s - n) (drop n s) ≡ drop n s
-rest s n = take-all (length s - n) (drop n s) (omega (arith, length-drop n s))
 
 and-false : (a : Bool) → (a && false) ≡ false
 and-false true = refl

@@ -1,20 +1,16 @@
 -- `reader::full_of` meets its contract, by what the block, the digits and the square ensure.
 -- Assumes nothing.
 use mathlib.Core.Path.{_≡_, sym, _∙_}
-use mathlib.Core.List.{List}
-use Prim.Native.Nat.{ℕ, _-_}
-use native.Mathlib.Omega.{arith}
 use borrow.Author.Needs.{needs}
-use lib.ListN.{length, take, drop, length-drop}
-use lib.Seq.{take-all}
+use lib.ListN.{drop}
 use mir.Syntax.{w64}
-use mir.Val.{toZ, ofZ}
 use mir.Facts.{toZ-ofZ}
 use Rattle.reader.specs.declared.BlockAnswer.the-variants.{Block}
 use Rattle.reader.specs.Head.{letterIn}
 use Rattle.reader.specs.Block.{blockOf}
 use Rattle.reader.specs.Digits.{digitsOf}
 use Rattle.reader.specs.Read.{fullOf}
+use Rattle.reader.proofs.Stages.{rest}
 use Rattle.reader.proofs.full_of.Statement.{statement}
 use Rattle.reader.proofs.full_of.Tie as tie
 
@@ -80,15 +76,12 @@ tiled : (c : tie.After-known-told2)
     blockOf (s .args .zone) (s .args .band) (s .args .k) (letterIn (s .args .rest .now) 0) (letterIn (s .args .rest .now) 1) ≡ Block (c .before .tiles .given .0 .0)
 tiled c = let t = c .before in sym (block (t .before .before)) ∙ t .tiles .given .1
 
-rest : (s : List ℕ) → take (length s - 2) (drop 2 s) ≡ drop 2 s
-rest s = take-all (length s - 2) (drop 2 s) (omega (arith, length-drop 2 s))
-
 digits : (c : tie.After-digits-of)
     → let s = c .before .before .before .before .before .before .before .before .before .before .before in
     c .digits-of .result ≡ digitsOf (drop 2 (s .args .rest .now))
 digits c =
     let s = c .before .before .before .before .before .before .before .before .before .before .before in
-    rw (rest (s .args .rest .now)) at (c .digits-of .ensures)
+    rw (rest (s .args .rest .now) 2) at (c .digits-of .ensures)
 
 returns-2 : tie.Need-returns-2
 unfolding fullOf

@@ -1,19 +1,16 @@
 -- `reader::read` meets its contract, by what the head and the tail ensure.
 -- Assumes nothing.
 use mathlib.Core.Path.{_≡_, sym, _∙_}
-use mathlib.Core.List.{List}
-use Prim.Native.Nat.{ℕ, _-_, _≤_, _<_}
+use Prim.Native.Nat.{_≤_}
 use native.Mathlib.Omega.{arith}
 use borrow.Author.Needs.{needs}
-use lib.ListN.{length, take, drop, length-drop}
-use lib.Seq.{take-all}
+use lib.ListN.{length}
 use mir.Syntax.{w64}
-use mir.Val.{toZ, ofZ}
 use mir.Facts.{toZ-ofZ}
 use Rattle.reader.specs.declared.HeadAnswer.the-variants.{Start}
 use Rattle.reader.specs.Head.{headOf}
 use Rattle.reader.specs.Read.{readOf}
-use Rattle.reader.proofs.Stages.{Began, began, place-lt}
+use Rattle.reader.proofs.Stages.{began, place-lt, rest}
 use Rattle.reader.proofs.read.Statement.{statement}
 use Rattle.reader.proofs.read.Tie as tie
 
@@ -47,9 +44,6 @@ tail-of-requires c κs = place-lt _ _ _ (began _ _ (head-is (c .before .before))
 returns : tie.Need-returns
 unfolding readOf
 returns c = let n = c .before in let k = sym (n .before .before .head-of .ensures) ∙ n .n .given .1 in rw k
-
-rest : (s : List ℕ) (n : ℕ) → take (length s - n) (drop n s) ≡ drop n s
-rest s n = take-all (length s - n) (drop n s) (omega (arith, length-drop n s))
 
 returns-2 : tie.Need-returns-2
 unfolding readOf

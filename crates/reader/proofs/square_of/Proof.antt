@@ -1,6 +1,6 @@
 -- `reader::square_of` meets its contract, by what `centre_of` ensures; the signed fields are read back.
 -- Assumes nothing.
-use mathlib.Core.Path.{_≡_, _∙_}
+use mathlib.Core.Path.{_≡_}
 use borrow.Author.Needs.{needs}
 use mir.Syntax.{w64}
 use mir.Val.{toZ, ofZ}

@@ -1,9 +1,7 @@
 -- `reader::tail_of` meets its contract, by what a bare zone and a full reference ensure.
 -- Assumes nothing.
-use mathlib.Core.Path.{_≡_, ap, _∙_}
 use borrow.Author.Needs.{needs}
 use borrow.Author.Tests.{eq-eqb, ne-eqb}
-use native.Mathlib.Omega.{arith}
 use mir.Facts.{toZ-ofZ}
 use Rattle.reader.specs.Read.{tailOf}
 use Rattle.reader.proofs.tail_of.Statement.{statement}

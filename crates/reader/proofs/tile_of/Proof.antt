@@ -3,7 +3,7 @@
 use mathlib.Core.Path.{_≡_, _∙_}
 use Prim.Native.Nat.{ℕ, _<_}
 use native.Mathlib.Omega.{arith}
-use lib.Dec.{T, lit≤}
+use lib.Dec.{T}
 use lib.IntN.{ℤ, pos, natAbs, _+ℤ_}
 use lib.Signed.{nonNeg}
 use mir.Syntax.{w8, w64}

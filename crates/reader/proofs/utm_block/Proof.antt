@@ -1,6 +1,6 @@
 -- `reader::utm_block` meets its contract, by what resolution ensures; its row is one of -90..94.
 -- Assumes nothing.
-use mathlib.Core.Path.{_≡_, sym, _∙_, ap}
+use mathlib.Core.Path.{_≡_, sym, _∙_}
 use borrow.Author.Needs.{needs}
 use native.Mathlib.Omega.{arith}
 use lib.Dec.{lit≤}
