@@ -135,7 +135,7 @@ def metres():
     """What in_metres prints: each of its texts read, and whether its metres are those that it stands beside."""
     source = open("crates/in_metres/src/main.rt").read()
     out = []
-    for text, *beside in re.findall(r'^    shown\(b"(.*?)", ([\d_.]+), ([\d_.]+)\);$', source, re.M):
+    for text, *beside in re.findall(r'shown\(\s*b"(.*?)",\s*([\d_.]+),\s*([\d_.]+),?\s*\);', source):
         answer = read(text.encode())
         if isinstance(answer, int):
             out.append(f"{text} R {answer}\n")
@@ -150,7 +150,7 @@ def buffers():
     """What in_buffers prints: each line in a buffer of dots, or the buffer as it was."""
     source = open("crates/in_buffers/src/main.rt").read()
     out = []
-    for size, text, number in re.findall(r"= \[b'.'; (\d+)\];\n    shown\(b\"(.*?)\", ([\d_]+),", source):
+    for size, text, number in re.findall(r"= \[b'.'; (\d+)\];\s*shown\(\s*b\"(.*?)\",\s*([\d_]+),", source):
         put, size = line(int(number), text.encode()), int(size)
         fits = len(put) <= size
         said = f"length {len(put)} [{put}{'.' * (size - len(put))}]" if fits else f"R 20 [{'.' * size}]"
