@@ -45,25 +45,33 @@ const LETTERS: [[u8; 24]; 13] = [
     *b"ABCDEFGHJKLMNP\0\0\0\0\0\0\0\0\0\0",
 ];
 
-// The same turned round: under each of A to Z its place, a for 0, b for 1 and so on, or a dot where it is not in the
-// set. Letter to place is one read.
+// The same turned round: under each of A to Z its place in the set, a for 0, b for 1 and so on, or a dot where it is not
+// in the set. Letter to place is one read, of a table of the set's own: the compiler builds a table where it is read.
 const ABSENT: u8 = b'.';
 
-const PLACES: [[u8; 26]; 13] = [
-    *b"..........................",
-    *b"..abcdef.ghijk.lmnopqrst..",
-    *b"ab......................cd",
-    *b"abcdefgh..................",
-    *b".........abcde.fgh........",
-    *b"..................abcdefgh",
-    *b"abcdefgh.ijklm.nopqrst....",
-    *b".........abc...defghi..jkl",
-    *b"abc..def.ghi...jkl........",
-    *b".................abcd..efg",
-    *b"abc..def.g................",
-    *b"abcdefgh.ijklm.nopqrstuvwx",
-    *b"abcdefgh.ijklm.n..........",
-];
+const IN_UTM_BANDS: [u8; 26] = *b"..abcdef.ghijk.lmnopqrst..";
+
+const IN_UPS_BANDS: [u8; 26] = *b"ab......................cd";
+
+const IN_UTM_COLUMNS_0: [u8; 26] = *b"abcdefgh..................";
+
+const IN_UTM_COLUMNS_1: [u8; 26] = *b".........abcde.fgh........";
+
+const IN_UTM_COLUMNS_2: [u8; 26] = *b"..................abcdefgh";
+
+const IN_UTM_ROWS: [u8; 26] = *b"abcdefgh.ijklm.nopqrst....";
+
+const IN_UPS_COLUMNS_A: [u8; 26] = *b".........abc...defghi..jkl";
+
+const IN_UPS_COLUMNS_B: [u8; 26] = *b"abc..def.ghi...jkl........";
+
+const IN_UPS_COLUMNS_Y: [u8; 26] = *b".................abcd..efg";
+
+const IN_UPS_COLUMNS_Z: [u8; 26] = *b"abc..def.g................";
+
+const IN_UPS_ROWS_SOUTH: [u8; 26] = *b"abcdefgh.ijklm.nopqrstuvwx";
+
+const IN_UPS_ROWS_NORTH: [u8; 26] = *b"abcdefgh.ijklm.n..........";
 
 // a-z count as A-Z.
 pub fn capital(b: u8) -> u8
@@ -104,8 +112,21 @@ fn coded_place(set: LetterSet, index: usize) -> u8
     requires { ⌜ index < 26 ⌝ }
     ensures { λ r. ⌜ r ≡ codeOf (placeOf set (alphabet index)) ⌝ }
 {
-    let line = number_of(set);
-    PLACES[line][index]
+    match set {
+        LetterSet::NoLetters => ABSENT,
+        LetterSet::UtmBands => IN_UTM_BANDS[index],
+        LetterSet::UpsBands => IN_UPS_BANDS[index],
+        LetterSet::UtmColumns0 => IN_UTM_COLUMNS_0[index],
+        LetterSet::UtmColumns1 => IN_UTM_COLUMNS_1[index],
+        LetterSet::UtmColumns2 => IN_UTM_COLUMNS_2[index],
+        LetterSet::UtmRows => IN_UTM_ROWS[index],
+        LetterSet::UpsColumnsA => IN_UPS_COLUMNS_A[index],
+        LetterSet::UpsColumnsB => IN_UPS_COLUMNS_B[index],
+        LetterSet::UpsColumnsY => IN_UPS_COLUMNS_Y[index],
+        LetterSet::UpsColumnsZ => IN_UPS_COLUMNS_Z[index],
+        LetterSet::UpsRowsSouth => IN_UPS_ROWS_SOUTH[index],
+        LetterSet::UpsRowsNorth => IN_UPS_ROWS_NORTH[index],
+    }
 }
 
 // Where a capital stands in a set; a small letter stands in none.
@@ -137,14 +158,25 @@ pub fn letter_at(set: LetterSet, place: usize) -> u8
     LETTERS[line][place]
 }
 
-const FIRST_TILES: [usize; 13] = [0, 0, 0, 1, 1, 1, 0, 8, 20, 13, 20, 8, 13];
-
 // The tile of the set's first letter; 0 for bands and UTM rows, which count no tiles.
 pub fn first_tile(set: LetterSet) -> usize
     ensures { λ r. ⌜ r ≡ firstTile set ⌝ }
 {
-    let line = number_of(set);
-    FIRST_TILES[line]
+    match set {
+        LetterSet::NoLetters => 0,
+        LetterSet::UtmBands => 0,
+        LetterSet::UpsBands => 0,
+        LetterSet::UtmColumns0 => 1,
+        LetterSet::UtmColumns1 => 1,
+        LetterSet::UtmColumns2 => 1,
+        LetterSet::UtmRows => 0,
+        LetterSet::UpsColumnsA => 8,
+        LetterSet::UpsColumnsB => 20,
+        LetterSet::UpsColumnsY => 13,
+        LetterSet::UpsColumnsZ => 20,
+        LetterSet::UpsRowsSouth => 8,
+        LetterSet::UpsRowsNorth => 13,
+    }
 }
 
 // The grid of a zone number.

@@ -1,37 +1,189 @@
--- `letters::coded_place` meets its contract: the table is the list of the places, by computation.
+-- `letters::coded_place` meets its contract: each set's table is the list of its places, by computation.
 -- Assumes nothing.
-use mathlib.Core.Path.{refl, _∙_}
-use Prim.Native.Nat.{_+_, _<_}
-use borrow.Author.Needs.{needs}
-use Rattle.whole.proofs.Table.{row2}
+use mathlib.Core.Path.{_≡_, refl, _∙_}
+use mathlib.Core.List.{List}
+use Prim.Native.Nat.{ℕ, _<_}
+use lib.ListN.{getD}
+use Rattle.whole.proofs.Table.{values, row}
+use Rattle.letters.specs.declared.LetterSet.{LetterSet}
+use Rattle.letters.specs.declared.LetterSet.the-variants.{UtmBands, UpsBands, UtmColumns0, UtmColumns1, UtmColumns2, UtmRows, UpsColumnsA, UpsColumnsB, UpsColumnsY, UpsColumnsZ, UpsRowsSouth, UpsRowsNorth}
 use Rattle.letters.specs.Letters.{placeOf, placeFrom}
-use Rattle.letters.specs.Tables.{codeOf}
-use Rattle.letters.proofs.Sets.{setAt, number-lt, set-is}
+use Rattle.letters.specs.Tables.{alphabet, codeOf}
+use borrow.Author.Needs.{needs}
 use Rattle.letters.proofs.coded_place.Statement.{statement}
 use Rattle.letters.proofs.coded_place.Tie as tie
 
-line-lt : (c : tie.After-number-of) → c .number-of .result < 13
-line-lt c = rw (c .number-of .ensures) (number-lt (c .before .args .set))
+-- the table of the set that was matched
+in-table : (given set : LetterSet) (k : ℕ) (xs : List ℕ) → given ≡ set → xs ≡ values (λ i. codeOf (placeOf set (alphabet i))) 0 26 → k < 26
+    → getD xs k 0 ≡ codeOf (placeOf given (alphabet k))
+in-table given set k xs e t h = row (λ i. codeOf (placeOf set (alphabet i))) xs 26 t 0 k h ∙ rw e
 
-number-of-requires : tie.Need-number-of-requires
-number-of-requires c κs = search needs
+enum-told : tie.Need-enum-told
+enum-told c = search needs
 
-mul-result : tie.Need-mul-result
-mul-result c = let h = line-lt c in search needs
+enum-told-2 : tie.Need-enum-told-2
+enum-told-2 c = search needs
 
-index-1-result : tie.Need-index-1-result
-index-1-result c = line-lt c
+array-read-result : tie.Need-array-read-result
+array-read-result c = search needs
 
-index-2-result : tie.Need-index-2-result
-index-2-result c = search needs
+enum-told-3 : tie.Need-enum-told-3
+enum-told-3 c = search needs
+
+array-read-result-2 : tie.Need-array-read-result-2
+array-read-result-2 c = search needs
+
+enum-told-4 : tie.Need-enum-told-4
+enum-told-4 c = search needs
+
+array-read-result-3 : tie.Need-array-read-result-3
+array-read-result-3 c = search needs
+
+enum-told-5 : tie.Need-enum-told-5
+enum-told-5 c = search needs
+
+array-read-result-4 : tie.Need-array-read-result-4
+array-read-result-4 c = search needs
+
+enum-told-6 : tie.Need-enum-told-6
+enum-told-6 c = search needs
+
+array-read-result-5 : tie.Need-array-read-result-5
+array-read-result-5 c = search needs
+
+enum-told-7 : tie.Need-enum-told-7
+enum-told-7 c = search needs
+
+array-read-result-6 : tie.Need-array-read-result-6
+array-read-result-6 c = search needs
+
+enum-told-8 : tie.Need-enum-told-8
+enum-told-8 c = search needs
+
+array-read-result-7 : tie.Need-array-read-result-7
+array-read-result-7 c = search needs
+
+enum-told-9 : tie.Need-enum-told-9
+enum-told-9 c = search needs
+
+array-read-result-8 : tie.Need-array-read-result-8
+array-read-result-8 c = search needs
+
+enum-told-10 : tie.Need-enum-told-10
+enum-told-10 c = search needs
+
+array-read-result-9 : tie.Need-array-read-result-9
+array-read-result-9 c = search needs
+
+enum-told-11 : tie.Need-enum-told-11
+enum-told-11 c = search needs
+
+array-read-result-10 : tie.Need-array-read-result-10
+array-read-result-10 c = search needs
+
+enum-told-12 : tie.Need-enum-told-12
+enum-told-12 c = search needs
+
+array-read-result-11 : tie.Need-array-read-result-11
+array-read-result-11 c = search needs
+
+enum-told-13 : tie.Need-enum-told-13
+enum-told-13 c = search needs
+
+array-read-result-12 : tie.Need-array-read-result-12
+array-read-result-12 c = search needs
 
 returns : tie.Need-returns
 unfolding placeOf placeFrom
-returns c =
-    let n = c .before in
-    let s = n .before in
-    row2 (λ n i. codeOf (placeOf (setAt n) (65 + i))) _ 13 26 refl _ _ (n .number-of .result) (s .args .index) (line-lt n) (s .pre)
-    ∙ rw (n .number-of .ensures, set-is (s .args .set))
+returns c = rw (c .enum-told .given .1)
+
+returns-2 : tie.Need-returns-2
+unfolding placeOf placeFrom
+returns-2 c = in-table _ UtmBands _ _ (c .enum-told2 .given .1) refl (c .before .before .pre)
+
+returns-3 : tie.Need-returns-3
+unfolding placeOf placeFrom
+returns-3 c = in-table _ UpsBands _ _ (c .enum-told3 .given .1) refl (c .before .before .pre)
+
+returns-4 : tie.Need-returns-4
+unfolding placeOf placeFrom
+returns-4 c = in-table _ UtmColumns0 _ _ (c .enum-told4 .given .1) refl (c .before .before .pre)
+
+returns-5 : tie.Need-returns-5
+unfolding placeOf placeFrom
+returns-5 c = in-table _ UtmColumns1 _ _ (c .enum-told5 .given .1) refl (c .before .before .pre)
+
+returns-6 : tie.Need-returns-6
+unfolding placeOf placeFrom
+returns-6 c = in-table _ UtmColumns2 _ _ (c .enum-told6 .given .1) refl (c .before .before .pre)
+
+returns-7 : tie.Need-returns-7
+unfolding placeOf placeFrom
+returns-7 c = in-table _ UtmRows _ _ (c .enum-told7 .given .1) refl (c .before .before .pre)
+
+returns-8 : tie.Need-returns-8
+unfolding placeOf placeFrom
+returns-8 c = in-table _ UpsColumnsA _ _ (c .enum-told8 .given .1) refl (c .before .before .pre)
+
+returns-9 : tie.Need-returns-9
+unfolding placeOf placeFrom
+returns-9 c = in-table _ UpsColumnsB _ _ (c .enum-told9 .given .1) refl (c .before .before .pre)
+
+returns-10 : tie.Need-returns-10
+unfolding placeOf placeFrom
+returns-10 c = in-table _ UpsColumnsY _ _ (c .enum-told10 .given .1) refl (c .before .before .pre)
+
+returns-11 : tie.Need-returns-11
+unfolding placeOf placeFrom
+returns-11 c = in-table _ UpsColumnsZ _ _ (c .enum-told11 .given .1) refl (c .before .before .pre)
+
+returns-12 : tie.Need-returns-12
+unfolding placeOf placeFrom
+returns-12 c = in-table _ UpsRowsSouth _ _ (c .enum-told12 .given .1) refl (c .before .before .pre)
+
+returns-13 : tie.Need-returns-13
+unfolding placeOf placeFrom
+returns-13 c = in-table _ UpsRowsNorth _ _ (c .enum-told13 .given .1) refl (c .before .before .pre)
 
 pub coded-place-spec : {M : Type 1} → statement M
-coded-place-spec = tie.close (tie.spec number-of-requires mul-result index-1-result index-2-result returns)
+coded-place-spec =
+    tie.close
+    (tie.spec
+    enum-told
+    enum-told-2
+    array-read-result
+    enum-told-3
+    array-read-result-2
+    enum-told-4
+    array-read-result-3
+    enum-told-5
+    array-read-result-4
+    enum-told-6
+    array-read-result-5
+    enum-told-7
+    array-read-result-6
+    enum-told-8
+    array-read-result-7
+    enum-told-9
+    array-read-result-8
+    enum-told-10
+    array-read-result-9
+    enum-told-11
+    array-read-result-10
+    enum-told-12
+    array-read-result-11
+    enum-told-13
+    array-read-result-12
+    returns
+    returns-2
+    returns-3
+    returns-4
+    returns-5
+    returns-6
+    returns-7
+    returns-8
+    returns-9
+    returns-10
+    returns-11
+    returns-12
+    returns-13)

@@ -1,31 +1,128 @@
--- `letters::first_tile` meets its contract: the table is the list of the first tiles, by computation.
+-- `letters::first_tile` meets its contract, case by case.
 -- Assumes nothing.
-use mathlib.Core.Path.{refl, _∙_}
-use Prim.Native.Nat.{_<_}
-use borrow.Author.Needs.{needs}
-use Rattle.whole.proofs.Table.{row}
 use Rattle.letters.specs.Letters.{firstTile}
-use Rattle.letters.proofs.Sets.{setAt, number-lt, set-is}
+use borrow.Author.Needs.{needs}
 use Rattle.letters.proofs.first_tile.Statement.{statement}
 use Rattle.letters.proofs.first_tile.Tie as tie
 
-line-lt : (c : tie.After-number-of) → c .number-of .result < 13
-line-lt c = rw (c .number-of .ensures) (number-lt (c .before .args .set))
+enum-told : tie.Need-enum-told
+enum-told c = search needs
 
-number-of-requires : tie.Need-number-of-requires
-number-of-requires c κs = search needs
+enum-told-2 : tie.Need-enum-told-2
+enum-told-2 c = search needs
 
-mul-result : tie.Need-mul-result
-mul-result c = let h = line-lt c in search needs
+enum-told-3 : tie.Need-enum-told-3
+enum-told-3 c = search needs
 
-array-read-result : tie.Need-array-read-result
-array-read-result c = line-lt c
+enum-told-4 : tie.Need-enum-told-4
+enum-told-4 c = search needs
+
+enum-told-5 : tie.Need-enum-told-5
+enum-told-5 c = search needs
+
+enum-told-6 : tie.Need-enum-told-6
+enum-told-6 c = search needs
+
+enum-told-7 : tie.Need-enum-told-7
+enum-told-7 c = search needs
+
+enum-told-8 : tie.Need-enum-told-8
+enum-told-8 c = search needs
+
+enum-told-9 : tie.Need-enum-told-9
+enum-told-9 c = search needs
+
+enum-told-10 : tie.Need-enum-told-10
+enum-told-10 c = search needs
+
+enum-told-11 : tie.Need-enum-told-11
+enum-told-11 c = search needs
+
+enum-told-12 : tie.Need-enum-told-12
+enum-told-12 c = search needs
+
+enum-told-13 : tie.Need-enum-told-13
+enum-told-13 c = search needs
 
 returns : tie.Need-returns
 unfolding firstTile
-returns c =
-    row (λ n. firstTile (setAt n)) _ 13 refl _ (c .number-of .result) (line-lt c)
-    ∙ rw (c .number-of .ensures, set-is (c .before .args .set))
+returns c = rw (c .enum-told .given .1)
+
+returns-2 : tie.Need-returns-2
+unfolding firstTile
+returns-2 c = rw (c .enum-told2 .given .1)
+
+returns-3 : tie.Need-returns-3
+unfolding firstTile
+returns-3 c = rw (c .enum-told3 .given .1)
+
+returns-4 : tie.Need-returns-4
+unfolding firstTile
+returns-4 c = rw (c .enum-told4 .given .1)
+
+returns-5 : tie.Need-returns-5
+unfolding firstTile
+returns-5 c = rw (c .enum-told5 .given .1)
+
+returns-6 : tie.Need-returns-6
+unfolding firstTile
+returns-6 c = rw (c .enum-told6 .given .1)
+
+returns-7 : tie.Need-returns-7
+unfolding firstTile
+returns-7 c = rw (c .enum-told7 .given .1)
+
+returns-8 : tie.Need-returns-8
+unfolding firstTile
+returns-8 c = rw (c .enum-told8 .given .1)
+
+returns-9 : tie.Need-returns-9
+unfolding firstTile
+returns-9 c = rw (c .enum-told9 .given .1)
+
+returns-10 : tie.Need-returns-10
+unfolding firstTile
+returns-10 c = rw (c .enum-told10 .given .1)
+
+returns-11 : tie.Need-returns-11
+unfolding firstTile
+returns-11 c = rw (c .enum-told11 .given .1)
+
+returns-12 : tie.Need-returns-12
+unfolding firstTile
+returns-12 c = rw (c .enum-told12 .given .1)
+
+returns-13 : tie.Need-returns-13
+unfolding firstTile
+returns-13 c = rw (c .enum-told13 .given .1)
 
 pub first-tile-spec : {M : Type 1} → statement M
-first-tile-spec = tie.close (tie.spec number-of-requires mul-result array-read-result returns)
+first-tile-spec =
+    tie.close
+    (tie.spec
+    enum-told
+    enum-told-2
+    enum-told-3
+    enum-told-4
+    enum-told-5
+    enum-told-6
+    enum-told-7
+    enum-told-8
+    enum-told-9
+    enum-told-10
+    enum-told-11
+    enum-told-12
+    enum-told-13
+    returns
+    returns-2
+    returns-3
+    returns-4
+    returns-5
+    returns-6
+    returns-7
+    returns-8
+    returns-9
+    returns-10
+    returns-11
+    returns-12
+    returns-13)
