@@ -1,37 +1,81 @@
 #!/usr/bin/env python3
 """Runs every must-fail edit: each must not only be refused by the prover, but give a wrong answer.
 
+    model/edits.py              runs the edits of every crate
+    model/edits.py CRATE..      runs those of the named crates
+
 The gate shows that the prover refuses an edit. It cannot show that the edited program is wrong: an edit may be refused
-only because a proof no longer fits code that still answers rightly. So this applies each edit to a copy, runs the program
-ground on it unproved, and names the first line that differs from crates/ground/stdout. Run it at the repository's root
-after an edit or an example is added; it ends with status 1 if some edit changes nothing.
+only because a proof no longer fits code that still answers rightly. So this applies each edit to a copy, runs a program
+on it unproved, and names the first line that differs from the program's stdout, what is said in its place, and for list
+the text that the line answers. The program is list for the edits of runs, reader and listing, and where that shows
+nothing in_metres and in_buffers; for all others it is ground. The edits of laws change what a theorem claims, and are not
+run. Run it at the repository's root after an edit or an example is added; it ends with status 1 if some edit changes
+nothing.
 """
 import glob, os, re, shutil, subprocess, sys, tempfile
 
-lines = open("crates/ground/stdout", "rb").read()
-silent = 0
-for path in sorted(glob.glob("crates/*/must-fail/*.edit")):
-    crate, label = path.split("/")[1], os.path.basename(path)[:-5]
-    where, old, new = (re.search(r"^%s: (.*)$" % k, open(path).read(), re.M).group(1) for k in ("file", "old", "new"))
-    with tempfile.TemporaryDirectory() as scratch:
-        for part in ("crates", "crates.txt"):
-            copy = shutil.copytree if os.path.isdir(part) else shutil.copy
-            copy(part, os.path.join(scratch, part))
-        target = os.path.join(scratch, "crates", crate, where)
-        text = open(target).read()
+READING = ("runs", "reader", "listing")
+
+
+def programs(crate):
+    return ("list", "in_metres", "in_buffers") if crate in READING else ("ground",)
+
+
+def changed(scratch, crate, path):
+    """Applies the edit to the copy."""
+    words = [line.rstrip("\n").split(": ", 1) for line in open(path)]
+    target = os.path.join(scratch, "crates", crate, words[0][1])
+    text = open(target).read()
+    for (_, old), (_, new) in zip(words[1::2], words[2::2]):
         assert text.count(old) == 1, path
-        open(target, "w").write(text.replace(old, new))
-        run = subprocess.run(["rt", "try", "ground"], cwd=scratch, capture_output=True, text=True)
-    said = run.stdout + run.stderr
-    at = re.search(r"on standard output, at byte (\d+)", said)
+        text = text.replace(old, new)
+    open(target, "w").write(text)
+
+
+def shown(scratch, program):
+    """What the program prints otherwise, or nothing."""
+    run = subprocess.run(["rt", "try", program], cwd=scratch, capture_output=True, text=True)
     if run.returncode == 0:
-        silent += 1
-        what = "CHANGES NOTHING"
-    elif at:
-        start = lines.rfind(b"\n", 0, int(at.group(1))) + 1
-        what = "differs at: " + lines[start:].split(b"\n")[0].decode()
-    else:
-        what = "does not end: " + said.strip().split("\n")[0]
-    print(f"{crate}/{label}: {what}")
-print(silent, "edits change nothing")
-sys.exit(1 if silent else 0)
+        return ""
+    said = run.stdout + run.stderr
+    # The interpreter stops after so many steps, and then nothing is wrong; where it stops at a fault, the compiled runs,
+    # which go on, come first.
+    runs = re.split(r"^(?=ok: |FAIL: )", said, flags=re.M)
+    wrong = [r for r in runs if r.startswith("FAIL: ") and "did not finish within" not in r]
+    if len(runs) > 1 and not wrong:
+        return ""
+    first = sorted(wrong or runs, key=lambda r: r.startswith("FAIL: the interpreter"))[0]
+    at = re.search(r'on standard output, at byte (\d+), expected .*, found "(.*)"', first)
+    if not at:
+        return f"{program} does not end: " + first.strip().split("\n")[0]
+    lines = open(os.path.join("crates", program, "stdout"), "rb").read()
+    byte = int(at.group(1))
+    start = lines.rfind(b"\n", 0, byte) + 1
+    right = lines[start:].split(b"\n")[0].decode()
+    what = f"{program} differs at: {right}, and says: " + lines[start:byte].decode() + at.group(2).split("\\n")[0][:80]
+    if program == "list" and right:
+        text = open(os.path.join("crates", "list", "stdin"), "rb").read().split(b"\n")[int(right.split()[0]) - 1]
+        what += ", of: " + repr(text)[1:]
+    return what
+
+
+def main():
+    silent = 0
+    for path in sorted(glob.glob("crates/*/must-fail/*.edit")):
+        crate, label = path.split("/")[1], os.path.basename(path)[:-5]
+        if crate == "laws" or sys.argv[1:] and crate not in sys.argv[1:]:
+            continue
+        with tempfile.TemporaryDirectory() as scratch:
+            for part in ("crates", "crates.txt"):
+                copy = shutil.copytree if os.path.isdir(part) else shutil.copy
+                copy(part, os.path.join(scratch, part))
+            changed(scratch, crate, path)
+            what = next(filter(None, (shown(scratch, program) for program in programs(crate))), None)
+        silent += what is None
+        print(f"{crate}/{label}: {what or 'CHANGES NOTHING'}", flush=True)
+    print(silent, "edits change nothing")
+    sys.exit(1 if silent else 0)
+
+
+if __name__ == "__main__":
+    main()

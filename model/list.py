@@ -112,8 +112,10 @@ RULES = [
 def hostile():
     yield from (t.encode() for t in EXAMPLE + REFERENCES + RULES)
     yield from (f"{zone}{band}".encode() for zone in (1, 31, 32) for band in BANDS)
-    # each band's first and last row, and the neighbours of the folded cases, in an odd and an even zone
-    yield from (f"{zone}{band}{COLUMNS[(zone - 1) % 3][c]}{row}".encode() for zone in (31, 60) for band in "CDHMNRUVWX" for c in (0, 1, 2, 5, 7) for row in ROWS)
+    # each band's first and last row, and the neighbours of the folded cases, for each set of columns, in an odd zone and in two even ones
+    yield from (f"{zone}{band}{COLUMNS[(zone - 1) % 3][c]}{row}".encode() for zone in (31, 32, 60) for band in "CDHMNRUVWX" for c in (0, 1, 2, 5, 7) for row in ROWS)
+    # each number of digits, even and odd, in the south and in the north, of UTM and of UPS
+    yield from ((start + "9081726354018273645500998"[:n]).encode() for start in ("14MKT", "15SWC", "BGN", "YZG") for n in range(26))
     yield from (bytes([b]) for b in range(1, 256) if b != 10)
     yield from (b"18TWL1234\x80", b"\xff18T", b"INV\x80", b"18TWL12\xc3\xa9", b"\xc3\x8918T")
     yield from (b"18TWL" + b"1" * n for n in (58, 59, 60, 61))

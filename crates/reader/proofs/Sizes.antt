@@ -21,8 +21,8 @@ use Rattle.rows.specs.Allowed.{allowed}
 use Rattle.rows.specs.Letters.{shiftOf}
 use Rattle.rows.specs.Resolve.{resolve}
 use Rattle.rows.proofs.Theorems.{answered, in-rows}
-use Rattle.scan.specs.Scan.{allDigits, valueOf}
-use Rattle.scan.proofs.Laws.{and-left, and-right, all-split, number-lt}
+use Rattle.runs.specs.Scan.{allDigits, valueOf}
+use Rattle.runs.proofs.Laws.{and-left, and-right, all-split, number-lt}
 use Rattle.position.specs.declared.Position.{Position}
 use Rattle.position.specs.Ranges.{tiles}
 use Rattle.position.specs.Squares.{centreOf}

@@ -8,8 +8,8 @@ use lib.IntN.{pos}
 use lib.ListN.{length, getD}
 use Rattle.letters.specs.Letters.{capitalOf, placeOf, byPlace}
 use Rattle.letters.specs.Sets.{bandsOf}
-use Rattle.scan.specs.declared.Lead.{Lead}
-use Rattle.scan.specs.Scan.{hasHigh, leadOf}
+use Rattle.runs.specs.declared.Lead.{Lead}
+use Rattle.runs.specs.Scan.{hasHigh, leadOf}
 use Rattle.reader.specs.declared.HeadAnswer.{HeadAnswer}
 use Rattle.reader.specs.declared.HeadAnswer.the-variants.{Start, NoStart}
 

@@ -5,8 +5,8 @@ use position::Metres;
 use position::MetresAnswer;
 use position::Position;
 use rows::RowAnswer;
-use scan::Lead;
-use scan::Run;
+use runs::Lead;
+use runs::Run;
 ghost use mathlib.Core.Path.{_≡_};
 ghost use mathlib.Core.Bool.{true};
 ghost use Prim.Native.Nat.{_+_, _≤_, _<_};
@@ -77,13 +77,13 @@ fn is_zone_wrong(lead: Lead) -> bool
 fn head_of(s: &[u8]) -> HeadAnswer
     ensures { λ r. ⌜ r ≡ headOf (now (s .entry)) ⌝ }
 {
-    if scan::has_high(s) {
+    if runs::has_high(s) {
         return HeadAnswer::NoStart(1);
     }
     if is_inv(s) {
         return HeadAnswer::NoStart(2);
     }
-    let lead = scan::lead_of(s);
+    let lead = runs::lead_of(s);
     if is_zone_wrong(lead) {
         return HeadAnswer::NoStart(3);
     }
@@ -257,10 +257,10 @@ fn digits_of(s: &[u8]) -> DigitsAnswer
 {
     let n = s.len();
     let half = n / 2;
-    let Run::Number(easting) = scan::run_of(&s[..half]) else {
+    let Run::Number(easting) = runs::run_of(&s[..half]) else {
         return DigitsAnswer::NoHalves(11);
     };
-    let Run::Number(northing) = scan::run_of(&s[half..]) else {
+    let Run::Number(northing) = runs::run_of(&s[half..]) else {
         return DigitsAnswer::NoHalves(11);
     };
     if n % 2 == 1 {

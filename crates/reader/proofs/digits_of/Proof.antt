@@ -11,9 +11,9 @@ use lib.ListN.{length, take, drop, length-take, length-drop}
 use lib.IntN.{ℤ, pos}
 use mir.Syntax.{w64}
 use mir.Facts.{toZ-pos}
-use Rattle.scan.specs.declared.Run.the-variants.{Number, NotDigits}
-use Rattle.scan.specs.Scan.{allDigits, runOf}
-use Rattle.scan.proofs.Laws.{all-split, run-no, run-yes, uncut}
+use Rattle.runs.specs.declared.Run.the-variants.{Number, NotDigits}
+use Rattle.runs.specs.Scan.{allDigits, runOf}
+use Rattle.runs.proofs.Laws.{all-split, run-no, run-yes, uncut}
 use Rattle.reader.specs.declared.DigitsAnswer.the-variants.{Halves, NoHalves}
 use Rattle.reader.specs.Digits.{digitsOf}
 use Rattle.reader.proofs.Stages.{rest}

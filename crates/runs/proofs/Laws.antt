@@ -1,0 +1,105 @@
+-- Digits and the numbers that they spell: what is cut on the way, how large a number of n digits is. Assumes nothing.
+use mathlib.Core.Path.{_≡_, refl}
+use mathlib.Core.Bool.{Bool, true, false, cond, _&&_}
+use mathlib.Core.List.{List, [], _∷_}
+use Prim.Native.Nat.{ℕ, zero, suc, _+_, _-_, _*_, _^_, _≤_, _<_, min}
+use native.Mathlib.Nat.{mul-le-mul-right, pow-succ'}
+use native.Mathlib.Numerals.{add-one}
+use native.Mathlib.Omega.{arith}
+use borrow.Author.Tests.{ltb-false, leb-true}
+use lib.Dec.{ltb, leb}
+use lib.ListN.{length, getD, take, drop, drop-of-length-le}
+use lib.Seq.{drop-cons}
+use Rattle.whole.proofs.Parts.{clash}
+use Rattle.whole.proofs.Powers.{ten-le}
+use Rattle.runs.specs.declared.Run.the-variants.{Number, NotDigits}
+use Rattle.runs.specs.Scan.{isDigit, allDigits, valueFrom, valueOf, leadingDigits, runOf}
+
+pub and-left : (a b : Bool) → (a && b) ≡ true → a ≡ true
+and-left true b e = refl
+and-left false b e = e
+
+pub and-right : (a b : Bool) → (a && b) ≡ true → b ≡ true
+and-right true b e = e
+and-right false b e = cc
+
+range-by : (x : ℕ) (t : Bool) → ltb x 48 ≡ t → cond t false (leb x 57) ≡ true → (48 ≤ x) × (x ≤ 57)
+range-by x true e h = absurd (omega (arith, leb-true 1 0 h))
+range-by x false e h = (ltb-false x 48 e, leb-true x 57 h)
+
+pub digit-range : (x : ℕ) → isDigit x ≡ true → (48 ≤ x) × (x ≤ 57)
+unfolding isDigit
+digit-range x t = range-by x (ltb x 48) refl t
+
+-- cutting to a limit on the way changes nothing of what is cut to it at the end
+pub sat : (limit : ℕ) (ds : List ℕ) (a b : ℕ) → min limit a ≡ min limit b → min limit (valueFrom a ds) ≡ min limit (valueFrom b ds)
+unfolding valueFrom
+sat limit [] a b e = e
+sat limit (d ∷ ds) a b e = sat limit ds (a * 10 + (d - 48)) (b * 10 + (d - 48)) (omega arith)
+
+-- the digits from the place i on: none past the end or at another byte, else that digit and those after it
+module _ (s : List ℕ) (i : ℕ) where
+  pub lead-end : length s ≤ i → leadingDigits (drop i s) ≡ []
+  unfolding leadingDigits
+  lead-end h = rw (drop-of-length-le s h)
+
+  pub lead-stop : i < length s → isDigit (getD s i 0) ≡ false → leadingDigits (drop i s) ≡ []
+  unfolding leadingDigits
+  lead-stop h t = rw (drop-cons s i 0, t)
+
+  pub lead-more : i < length s → isDigit (getD s i 0) ≡ true → leadingDigits (drop i s) ≡ getD s i 0 ∷ leadingDigits (drop (i + 1) s)
+  unfolding leadingDigits
+  lead-more h t = rw (add-one, drop-cons s i 0, t)
+
+pub all-head : (x : ℕ) (ds : List ℕ) → allDigits (x ∷ ds) ≡ true → isDigit x ≡ true
+unfolding allDigits
+all-head x ds t = and-left _ _ t
+
+pub all-tail : (x : ℕ) (ds : List ℕ) → allDigits (x ∷ ds) ≡ true → allDigits ds ≡ true
+unfolding allDigits
+all-tail x ds t = and-right (isDigit x) _ t
+
+-- n digits after a are below (a + 1) times 10 to the n, so n digits alone are below 10 to the n
+pub below : (ds : List ℕ) (a : ℕ) → allDigits ds ≡ true → valueFrom a ds < (a + 1) * 10 ^ length ds
+unfolding valueFrom
+below [] a t = omega arith
+below (d ∷ ds) a t =
+    let r = digit-range d (all-head d ds t) in
+    let b : a * 10 + (d - 48) + 1 ≤ (a + 1) * 10 = omega arith in
+    rw (pow-succ' 10 (length ds))
+    (omega (arith, below ds (a * 10 + (d - 48)) (all-tail d ds t), mul-le-mul-right (10 ^ length ds) b))
+
+-- digits in two parts
+pub all-split : (n : ℕ) (ds : List ℕ) → allDigits ds ≡ (allDigits (take n ds) && allDigits (drop n ds))
+unfolding allDigits
+all-split zero ds = refl
+all-split (suc n) [] = refl
+all-split (suc n) (d ∷ ds) = rw (all-split n ds) (assoc (isDigit d) _ _)
+  where
+    assoc : (a b c : Bool) → (a && (b && c)) ≡ ((a && b) && c)
+    assoc true b c = refl
+    assoc false b c = refl
+
+-- what a run's answer says of its bytes
+no-by : (t : Bool) (v : ℕ) → cond t (Number v) NotDigits ≡ NotDigits → t ≡ false
+no-by true v e = clash (cc)
+no-by false v e = refl
+
+yes-by : (t : Bool) (v w : ℕ) → cond t (Number v) NotDigits ≡ Number w → (t ≡ true) × (w ≡ v)
+yes-by true v w e = (refl, cc)
+yes-by false v w e = clash (cc)
+
+pub run-no : (s : List ℕ) → runOf s ≡ NotDigits → allDigits s ≡ false
+unfolding runOf
+run-no s e = no-by (allDigits s) _ e
+
+pub run-yes : (s : List ℕ) (v : ℕ) → runOf s ≡ Number v → (allDigits s ≡ true) × (v ≡ min 100000000000 (valueOf s))
+unfolding runOf
+run-yes s v e = yes-by (allDigits s) _ v e
+
+-- n digits are below 10 to the n, and eleven are not cut
+pub number-lt : (s : List ℕ) → allDigits s ≡ true → valueOf s < 10 ^ length s
+number-lt s t = omega (arith, below s 0 t)
+
+pub uncut : (s : List ℕ) → allDigits s ≡ true → length s ≤ 11 → min 100000000000 (valueOf s) ≡ valueOf s
+uncut s t h = omega (arith, number-lt s t, ten-le (length s) h)

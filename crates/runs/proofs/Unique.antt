@@ -1,0 +1,26 @@
+-- Two answers that meet a call's promise are equal: one lemma for each public call, over the contract itself.
+-- Assumes nothing.
+use mathlib.Core.Path.{_≡_, sym, _∙_}
+use contract.Lifetimes.{Lfts}
+use borrow.Fn.World.{ArgsD, ResD}
+use denote.Triple.Clauses.{AtExit}
+use Rattle.runs.proofs.is_digit as is-digit
+use Rattle.runs.proofs.is_digit.Reads as is-digit-reads
+use Rattle.runs.proofs.has_high as has-high
+use Rattle.runs.proofs.has_high.Reads as has-high-reads
+use Rattle.runs.proofs.lead_of as lead-of
+use Rattle.runs.proofs.lead_of.Reads as lead-of-reads
+use Rattle.runs.proofs.run_of as run-of
+use Rattle.runs.proofs.run_of.Reads as run-of-reads
+
+pub is-digit-unique : (κs : Lfts 0) (a : ArgsD is-digit.signature κs) (r r′ : ResD is-digit.signature κs) (s s′ : AtExit is-digit.ended κs) → is-digit-reads.Post κs a r s → is-digit-reads.Post κs a r′ s′ → r ≡ r′
+is-digit-unique κs a r r′ s s′ p q = p ∙ sym q
+
+pub has-high-unique : (κs : Lfts 1) (a : ArgsD has-high.signature κs) (r r′ : ResD has-high.signature κs) (s s′ : AtExit has-high.ended κs) → has-high-reads.Post κs a r s → has-high-reads.Post κs a r′ s′ → r ≡ r′
+has-high-unique κs a r r′ s s′ p q = p ∙ sym q
+
+pub lead-of-unique : (κs : Lfts 1) (a : ArgsD lead-of.signature κs) (r r′ : ResD lead-of.signature κs) (s s′ : AtExit lead-of.ended κs) → lead-of-reads.Post κs a r s → lead-of-reads.Post κs a r′ s′ → r ≡ r′
+lead-of-unique κs a r r′ s s′ p q = p ∙ sym q
+
+pub run-of-unique : (κs : Lfts 1) (a : ArgsD run-of.signature κs) (r r′ : ResD run-of.signature κs) (s s′ : AtExit run-of.ended κs) → run-of-reads.Post κs a r s → run-of-reads.Post κs a r′ s′ → r ≡ r′
+run-of-unique κs a r r′ s s′ p q = p ∙ sym q
