@@ -8,7 +8,7 @@ use Rattle.rows.specs.Allowed.{allowed}
 use Rattle.rows.specs.Letters.{shiftOf, letterOf}
 use Rattle.rows.specs.Resolve.{firstRow, resolve}
 use Rattle.position.specs.Squares.{centreOf}
-use Rattle.runs.specs.Scan.{hasHigh, isDigit, allDigits, valueFrom, leadingDigits, leadOf}
+use Rattle.runs.specs.Runs.{hasHigh, isDigit, allDigits, valueFrom, leadingDigits, leadOf}
 use Rattle.reader.specs.Head.{invLetters, isInv, zoneWrong, headOf}
 use Rattle.reader.specs.Bare.{bareEasting, bareTile, bareNorthing, bareOf}
 use Rattle.reader.specs.Block.{utmBlock, blockOf}

@@ -5,7 +5,7 @@ use mathlib.Core.List.{List}
 use Prim.Native.Nat.{ℕ, _+_, _*_, _-_, _^_, _≤_}
 use lib.IntN.{pos}
 use lib.ListN.{length, take, drop}
-use Rattle.runs.specs.Scan.{valueOf}
+use Rattle.runs.specs.Runs.{valueOf}
 use Rattle.position.specs.declared.Position.{Position}
 use Rattle.reader.specs.declared.Head.{Head}
 use Rattle.reader.specs.declared.HeadAnswer.the-variants.{Start}

@@ -21,7 +21,7 @@ use Rattle.rows.specs.Allowed.{allowed}
 use Rattle.rows.specs.Letters.{shiftOf}
 use Rattle.rows.specs.Resolve.{resolve}
 use Rattle.rows.proofs.Theorems.{answered, in-rows}
-use Rattle.runs.specs.Scan.{allDigits, valueOf}
+use Rattle.runs.specs.Runs.{allDigits, valueOf}
 use Rattle.runs.proofs.Laws.{and-left, and-right, all-split, number-lt}
 use Rattle.position.specs.declared.Position.{Position}
 use Rattle.position.specs.Ranges.{tiles}

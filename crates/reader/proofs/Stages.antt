@@ -17,7 +17,7 @@ use Rattle.letters.specs.Letters.{placeOf, byPlace, firstTile}
 use Rattle.letters.specs.Sets.{bandsOf, columnsOf, rowsOf, northBand}
 use Rattle.letters.proofs.Laws.{place-below, size-le}
 use Rattle.position.specs.declared.Position.{Position}
-use Rattle.runs.specs.Scan.{hasHigh, leadOf}
+use Rattle.runs.specs.Runs.{hasHigh, leadOf}
 use Rattle.reader.specs.declared.Head.{Head}
 use Rattle.reader.specs.declared.HeadAnswer.{HeadAnswer}
 use Rattle.reader.specs.declared.HeadAnswer.the-variants.{Start, NoStart}

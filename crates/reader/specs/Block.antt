@@ -29,7 +29,7 @@ onRow easting Nothing = NoBlock 10
 unfoldable pub utmBlock : ℤ → ℕ → ℕ → ℕ → ℕ → BlockAnswer
 utmBlock zone k c l easting = onRow easting (resolve (shiftOf zone) (pos k -ℤ pos 10) c l)
 
--- A column's tile is its place from its set's first tile on, and so is a UPS row's: "all are allowed".
+-- A column's tile is its place from its set's first tile on, and so is a row's in UPS, zone 0: "all are allowed".
 unfoldable pub blockOf : ℤ → ℕ → ℕ → ℕ → ℕ → BlockAnswer
 blockOf zone band k column row =
     let columns = columnsOf zone band in

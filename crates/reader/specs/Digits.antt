@@ -5,7 +5,7 @@ use Prim.Native.Nat.{ℕ, _/_, _%_}
 use lib.Dec.{eqb, ltb}
 use lib.IntN.{pos}
 use lib.ListN.{length, take, drop}
-use Rattle.runs.specs.Scan.{allDigits, valueOf}
+use Rattle.runs.specs.Runs.{allDigits, valueOf}
 use Rattle.reader.specs.declared.DigitsAnswer.{DigitsAnswer}
 use Rattle.reader.specs.declared.DigitsAnswer.the-variants.{Halves, NoHalves}
 

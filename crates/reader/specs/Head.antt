@@ -9,7 +9,7 @@ use lib.ListN.{length, getD}
 use Rattle.letters.specs.Letters.{capitalOf, placeOf, byPlace}
 use Rattle.letters.specs.Sets.{bandsOf}
 use Rattle.runs.specs.declared.Lead.{Lead}
-use Rattle.runs.specs.Scan.{hasHigh, leadOf}
+use Rattle.runs.specs.Runs.{hasHigh, leadOf}
 use Rattle.reader.specs.declared.HeadAnswer.{HeadAnswer}
 use Rattle.reader.specs.declared.HeadAnswer.the-variants.{Start, NoStart}
 

@@ -13,7 +13,7 @@ use lib.Seq.{drop-cons}
 use Rattle.whole.proofs.Parts.{clash}
 use Rattle.whole.proofs.Powers.{ten-le}
 use Rattle.runs.specs.declared.Run.the-variants.{Number, NotDigits}
-use Rattle.runs.specs.Scan.{isDigit, allDigits, valueFrom, valueOf, leadingDigits, runOf}
+use Rattle.runs.specs.Runs.{isDigit, allDigits, valueFrom, valueOf, leadingDigits, runOf}
 
 pub and-left : (a b : Bool) → (a && b) ≡ true → a ≡ true
 and-left true b e = refl

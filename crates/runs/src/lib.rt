@@ -3,7 +3,7 @@
 ghost use mathlib.Core.Path.{_≡_};
 ghost use mathlib.Core.Bool.{true};
 ghost use Prim.Native.Nat.{_+_, _-_, _*_, _≤_, min};
-ghost use Rattle.runs.specs.Scan.{isDigit, high, hasHigh, valueOf, leadOf, runOf};
+ghost use Rattle.runs.specs.Runs.{isDigit, high, hasHigh, valueOf, leadOf, runOf};
 
 // 0 to 9.
 pub fn is_digit(b: u8) -> bool

@@ -12,7 +12,7 @@ use lib.IntN.{ℤ, pos}
 use mir.Syntax.{w64}
 use mir.Facts.{toZ-pos}
 use Rattle.runs.specs.declared.Run.the-variants.{Number, NotDigits}
-use Rattle.runs.specs.Scan.{allDigits, runOf}
+use Rattle.runs.specs.Runs.{allDigits, runOf}
 use Rattle.runs.proofs.Laws.{all-split, run-no, run-yes, uncut}
 use Rattle.reader.specs.declared.DigitsAnswer.the-variants.{Halves, NoHalves}
 use Rattle.reader.specs.Digits.{digitsOf}

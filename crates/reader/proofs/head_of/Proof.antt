@@ -17,7 +17,7 @@ use Rattle.letters.specs.declared.Place.the-variants.{At, NotInSet}
 use Rattle.letters.specs.Letters.{placeOf}
 use Rattle.reader.specs.declared.HeadAnswer.the-variants.{Start, NoStart}
 use Rattle.letters.specs.Sets.{bandsOf}
-use Rattle.runs.specs.Scan.{hasHigh, leadOf}
+use Rattle.runs.specs.Runs.{hasHigh, leadOf}
 use Rattle.reader.specs.Head.{letterIn, isInv, zoneWrong, headOf}
 use Rattle.reader.proofs.head_of.Statement.{statement}
 use Rattle.reader.proofs.head_of.Tie as tie

@@ -8,7 +8,7 @@ use native.Mathlib.Numerals.{add-one}
 use borrow.Author.Needs.{needs}
 use lib.ListN.{length, getD, drop, drop-of-length-le}
 use lib.Seq.{drop-cons}
-use Rattle.runs.specs.Scan.{high, hasHigh}
+use Rattle.runs.specs.Runs.{high, hasHigh}
 use Rattle.runs.proofs.has_high.Statement.{statement}
 use Rattle.runs.proofs.has_high.Tie as tie
 

@@ -1,7 +1,7 @@
 -- `runs::is_digit` meets its contract: the tests are the definition's.
 -- Assumes nothing.
 use borrow.Author.Tests.{lt-ltb, le-ltb}
-use Rattle.runs.specs.Scan.{isDigit}
+use Rattle.runs.specs.Runs.{isDigit}
 use Rattle.runs.proofs.is_digit.Statement.{statement}
 use Rattle.runs.proofs.is_digit.Tie as tie
 

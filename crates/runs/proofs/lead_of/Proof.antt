@@ -9,7 +9,7 @@ use borrow.Author.Needs.{needs}
 use borrow.Author.Tests.{not-true, not-false}
 use lib.ListN.{length, drop}
 use Rattle.runs.specs.declared.Lead.{Lead}
-use Rattle.runs.specs.Scan.{valueFrom, leadingDigits, leadOf}
+use Rattle.runs.specs.Runs.{valueFrom, leadingDigits, leadOf}
 use Rattle.runs.proofs.Laws.{sat, lead-end, lead-stop, lead-more}
 use Rattle.runs.proofs.lead_of.Statement.{statement}
 use Rattle.runs.proofs.lead_of.Tie as tie

@@ -12,7 +12,7 @@ use lib.ListN.{length, getD, drop, drop-of-length-le}
 use lib.Seq.{drop-cons}
 use Rattle.runs.specs.declared.Run.{Run}
 use Rattle.runs.specs.declared.Run.the-variants.{Number, NotDigits}
-use Rattle.runs.specs.Scan.{isDigit, allDigits, valueFrom, runOf}
+use Rattle.runs.specs.Runs.{isDigit, allDigits, valueFrom, runOf}
 use Rattle.runs.proofs.Laws.{sat}
 use Rattle.runs.proofs.run_of.Statement.{statement}
 use Rattle.runs.proofs.run_of.Tie as tie
