@@ -1,5 +1,5 @@
 -- How a numeral grows from its last digit on, and how long it is. Assumes nothing.
-use mathlib.Core.Path.{_≡_, _∙_}
+use mathlib.Core.Path.{_≡_}
 use mathlib.Core.List.{List, _∷_, _++_, append-assoc}
 use Prim.Native.Nat.{ℕ, suc, _*_, _/_, _%_, _^_, _≤_, _<_}
 use native.Mathlib.Nat.{pow-succ'}
@@ -16,18 +16,6 @@ longer k n t h = rw (le-ltb n 10 h, append-assoc)
 pub single : (k n : ℕ) (t : List ℕ) → n < 10 → numeral (suc k) n ++ t ≡ digit n ∷ t
 unfolding numeral
 single k n t h = rw (lt-ltb n 10 h)
-
--- two digits and more: the last two belong to the text
-pub two-longer : (k n : ℕ) (t : List ℕ) → 100 ≤ n → numeral (suc (suc k)) n ++ t ≡ numeral k (n / 100) ++ (digit (n % 100 / 10) ∷ digit (n % 100 % 10) ∷ t)
-two-longer k n t h =
-    let a : n / 10 / 10 ≡ n / 100 = omega arith in
-    let b : n / 10 % 10 ≡ n % 100 / 10 = omega arith in
-    let c : n % 10 ≡ n % 100 % 10 = omega arith in
-    longer (suc k) n t (omega arith) ∙ longer k (n / 10) (digit (n % 10) ∷ t) (omega arith) ∙ rw (a, b, c)
-
--- just two
-pub pair : (k n : ℕ) (t : List ℕ) → 10 ≤ n → n < 100 → numeral (suc (suc k)) n ++ t ≡ digit (n / 10) ∷ digit (n % 10) ∷ t
-pair k n t h g = longer (suc k) n t h ∙ single k (n / 10) (digit (n % 10) ∷ t) (omega arith)
 
 -- what is left has a digit less
 pub less : (k n : ℕ) → n < 10 ^ suc k → n / 10 < 10 ^ k

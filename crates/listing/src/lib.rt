@@ -3,9 +3,9 @@ use position::Position;
 use reader::Answer;
 ghost use mathlib.Core.Path.{_≡_};
 ghost use mathlib.Core.List.{_∷_, _++_};
-ghost use Prim.Native.Nat.{_+_, _/_, _%_, _<_, _≤_};
+ghost use Prim.Native.Nat.{_+_, _<_, _≤_};
 ghost use lib.ListN.{length, drop};
-ghost use Rattle.listing.specs.Numerals.{digit, decimal, signed};
+ghost use Rattle.listing.specs.Numerals.{decimal, signed};
 ghost use Rattle.listing.specs.Listing.{sideOf, field, letter, answerOf, zoneText, unitsText, refusalText, textOf, lineOf, fitOf, leavesOf};
 
 // A line is made from its end to its start, so that no number has to be counted before it is written; `at` is where its
@@ -21,30 +21,18 @@ fn put(line: &mut [u8], at: usize, b: u8) -> usize
     to
 }
 
-// Two digits in front.
-fn put_pair(line: &mut [u8], at: usize, n: u64) -> usize
-    requires { ⌜ (n < 100) × (2 ≤ at) × (at ≤ length (now line)) ⌝ }
-    ensures { λ r. ⌜ (r + 2 ≡ at) × (drop r (now (line .exit)) ≡ digit (n / 10) ∷ digit (n % 10) ∷ drop at (now (line .entry))) ⌝ }
-{
-    let a = put(line, at, b'0' + (n % 10) as u8);
-    put(line, a, b'0' + (n / 10) as u8)
-}
-
-// A number in front, its last digits first. Two at a time, since each division waits for the one before it.
+// A number in front, by its last digits first.
 fn put_number(line: &mut [u8], at: usize, n: u64) -> usize
     requires { ⌜ (20 ≤ at) × (at ≤ length (now line)) ⌝ }
     ensures { λ r. ⌜ (at ≤ r + 20) × (r ≤ at) × (drop r (now (line .exit)) ≡ decimal n ++ drop at (now (line .entry))) ⌝ }
 {
     let mut to = at;
     let mut rest = n;
-    while 100 <= rest {
-        to = put_pair(line, to, rest % 100);
-        rest = rest / 100;
+    while 10 <= rest {
+        to = put(line, to, b'0' + (rest % 10) as u8);
+        rest = rest / 10;
     }
-    if rest < 10 {
-        return put(line, to, b'0' + rest as u8);
-    }
-    put_pair(line, to, rest)
+    put(line, to, b'0' + rest as u8)
 }
 
 // A blank and a signed number in front.
