@@ -86,7 +86,7 @@ pub fn capital(b: u8) -> u8
     b - 32
 }
 
-// Which line of the tables is the set's.
+// Which line of the table is the set's.
 fn number_of(set: LetterSet) -> usize
     ensures { λ r. ⌜ r ≡ numberOf set ⌝ }
 {
