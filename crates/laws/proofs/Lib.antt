@@ -1,4 +1,13 @@
 pub mod Accept
 pub mod Centre
 pub mod Bare
+pub mod Held
+pub mod Inside
+pub mod Blocks
+pub mod BarePoints
+pub mod Returns
+pub mod Heads
+pub mod PointLetters
+pub mod Back
+pub mod Length
 pub mod Starred

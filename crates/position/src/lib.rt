@@ -30,6 +30,17 @@ pub struct Position {
     pub northing: i64,
 }
 
+// What a full reference is made of: the letters are capitals, the numbers are those of the digits.
+pub struct Parts {
+    pub zone: i64,
+    pub band: u8,
+    pub column: u8,
+    pub row: u8,
+    pub p: i64,
+    pub easting: u64,
+    pub northing: u64,
+}
+
 // The lower and the upper end of a range, in units.
 struct Ends {
     pub low: i64,

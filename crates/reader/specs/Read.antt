@@ -18,7 +18,7 @@ use Rattle.reader.specs.declared.BlockAnswer.the-variants.{Block, NoBloc
 use Rattle.reader.specs.declared.Digits.{Digits}
 use Rattle.reader.specs.declared.DigitsAnswer.{DigitsAnswer}
 use Rattle.reader.specs.declared.DigitsAnswer.the-variants.{Halves, NoHalves}
-use Rattle.reader.specs.declared.Parts.{Parts}
+use Rattle.position.specs.declared.Parts.{Parts}
 use Rattle.reader.specs.declared.Answer.{Answer}
 use Rattle.reader.specs.declared.Answer.the-variants.{Square, Bare, Refused}
 use Rattle.reader.specs.Head.{letterIn, headOf}

@@ -3,6 +3,7 @@ use letters::LetterSet;
 use letters::Place;
 use position::Metres;
 use position::MetresAnswer;
+use position::Parts;
 use position::Position;
 use rows::RowAnswer;
 use runs::Lead;
@@ -278,17 +279,6 @@ fn digits_of(s: &[u8]) -> DigitsAnswer
 }
 
 // ---- parts to position
-
-// What a full reference is made of: the letters are capitals, the numbers are those of the digits.
-pub struct Parts {
-    pub zone: i64,
-    pub band: u8,
-    pub column: u8,
-    pub row: u8,
-    pub p: i64,
-    pub easting: u64,
-    pub northing: u64,
-}
 
 // The centre of the square that the parts name in their tiles.
 fn square_of(parts: Parts, tiles: Tiles) -> Position

@@ -1,7 +1,7 @@
 -- Bytes, digits and the numbers that they spell: document 01, "Reading bytes". Assumes nothing.
 use mathlib.Core.Bool.{Bool, true, false, cond, _&&_, _||_}
-use mathlib.Core.List.{List, [], _∷_}
-use Prim.Native.Nat.{ℕ, _+_, _-_, _*_, min}
+use mathlib.Core.List.{List, [], _∷_, _++_}
+use Prim.Native.Nat.{ℕ, zero, suc, _+_, _-_, _*_, _/_, _%_, min}
 use Prim.Native.Char.{code}
 use lib.Dec.{ltb, leb}
 use lib.ListN.{length}
@@ -48,3 +48,8 @@ leadOf s = record { count = length (leadingDigits s); value = min 61 (valueOf (l
 -- A run of bytes as a number, cut to 10^11, which eleven digits do not reach.
 unfoldable pub runOf : List ℕ → Run
 runOf s = cond (allDigits s) (Number (min 100000000000 (valueOf s))) NotDigits
+
+-- The last n digits of a number, zeros in front where it has fewer.
+unfoldable pub lastDigits : ℕ → ℕ → List ℕ
+lastDigits zero x = []
+lastDigits (suc n) x = lastDigits n (x / 10) ++ ((code "0" + x % 10) ∷ [])

@@ -4,6 +4,8 @@ use mathlib.Core.Path.{_≡_, sym, _∙_}
 use contract.Lifetimes.{Lfts}
 use borrow.Fn.World.{ArgsD, ResD}
 use denote.Triple.Clauses.{AtExit}
+use Rattle.whole.proofs.is_outside as is-outside
+use Rattle.whole.proofs.is_outside.Reads as is-outside-reads
 use Rattle.whole.proofs.fold_of as fold-of
 use Rattle.whole.proofs.fold_of.Reads as fold-of-reads
 use Rattle.whole.proofs.floor_div as floor-div
@@ -12,6 +14,9 @@ use Rattle.whole.proofs.floor_mod as floor-mod
 use Rattle.whole.proofs.floor_mod.Reads as floor-mod-reads
 use Rattle.whole.proofs.power_of_ten as power-of-ten
 use Rattle.whole.proofs.power_of_ten.Reads as power-of-ten-reads
+
+pub is-outside-unique : (κs : Lfts 0) (a : ArgsD is-outside.signature κs) (r r′ : ResD is-outside.signature κs) (s s′ : AtExit is-outside.ended κs) → is-outside-reads.Post κs a r s → is-outside-reads.Post κs a r′ s′ → r ≡ r′
+is-outside-unique κs a r r′ s s′ p q = p ∙ sym q
 
 pub fold-of-unique : (κs : Lfts 0) (a : ArgsD fold-of.signature κs) (r r′ : ResD fold-of.signature κs) (s s′ : AtExit fold-of.ended κs) → fold-of-reads.Post κs a r s → fold-of-reads.Post κs a r′ s′ → r ≡ r′
 fold-of-unique κs a r r′ s s′ p q = p ∙ sym q

@@ -1,7 +1,18 @@
-// Whole numbers: division of a signed number that rounds down, and powers of ten.
+// Whole numbers: ranges, division of a signed number that rounds down, and powers of ten.
 ghost use mathlib.Core.Path.{_≡_};
+ghost use Rattle.whole.specs.Compare.{outside};
 ghost use Rattle.whole.specs.Floor.{fold, floorDiv, floorMod};
 ghost use Rattle.whole.specs.Powers.{powerOfTen};
+
+// Whether a number is not one of low..high, both ends in.
+pub fn is_outside(low: i64, high: i64, z: i64) -> bool
+    ensures { λ r. ⌜ r ≡ outside low high z ⌝ }
+{
+    if z < low {
+        return true;
+    }
+    high < z
+}
 
 // A negative v as -v-1, any other as it is: how rows and bands are mirrored, and how the division
 // below gets by with unsigned numbers.

@@ -1,0 +1,149 @@
+-- Of a block that was read: points in its tiles stay as they are, its band fits, and its tiles have the letters that were
+-- read. Assumes nothing.
+use mathlib.Core.Path.{_≡_, refl, ap}
+use mathlib.Core.Bool.{Bool, true, false, cond}
+use Prim.Native.Nat.{ℕ, _+_, _-_}
+use native.Mathlib.Omega.{arith}
+use borrow.Author.Tests.{le-ltb}
+use lib.Dec.{eqb}
+use lib.IntN.{ℤ, pos, _-ℤ_}
+use lib.Signed.{ltZ}
+use Rattle.whole.specs.Floor.{floorMod}
+use Rattle.whole.proofs.Parts.{clash}
+use Rattle.letters.specs.declared.Grid.the-variants.{Utm, Ups}
+use Rattle.letters.specs.declared.LetterSet.{LetterSet}
+use Rattle.letters.specs.declared.LetterSet.the-variants.{UpsBands, UtmColumns0, UtmColumns1, UtmColumns2, UpsRowsSouth, UpsRowsNorth}
+use Rattle.letters.specs.declared.Place.the-variants.{At}
+use Rattle.letters.specs.Letters.{placeOf, letterAt, firstTile}
+use Rattle.letters.specs.Sets.{gridOf, bandsOf, utmColumns, upsColumns, columnsOf, rowsOf, northBand, eastBand}
+use Rattle.letters.proofs.Laws.{sizeOf, place-below, place-holds}
+use Rattle.rows.specs.declared.RowAnswer.{RowAnswer}
+use Rattle.rows.specs.declared.RowAnswer.the-variants.{Row, Nothing}
+use Rattle.rows.specs.Letters.{shiftOf}
+use Rattle.rows.specs.Resolve.{resolve}
+use Rattle.rows.proofs.Theorems.{answered, in-rows}
+use Rattle.reader.specs.declared.Tiles.{Tiles}
+use Rattle.reader.specs.declared.BlockAnswer.the-variants.{Block}
+use Rattle.reader.specs.Block.{tileOf, tilesOf, onRow, utmBlock, blockOf}
+use Rattle.reader.proofs.Stages.{placed}
+use Rattle.writer.specs.Compose.{letterOfTile, rowLetter}
+use Rattle.laws.proofs.Inside.{alike, Kind, kind, Inside, row-side, row-back, utm-inside, lowTile, highTile, westTile, eastTile, Polar, ups-inside}
+
+-- what is known of the tiles of a block
+pub record Stands (zone : ℤ) (band k column row : ℕ) (t : Tiles) : Type 0 where
+  pub inside : Inside zone band k (t .easting) (t .northing)
+  pub column-is : letterOfTile (columnsOf zone band) (t .easting) ≡ column
+  pub row-is : rowLetter zone (northBand band) (t .northing) ≡ row
+
+-- the tile of a letter's place has that letter
+letter-back : (set : LetterSet) (b c : ℕ) → placeOf set b ≡ At c → letterOfTile set (firstTile set + c) ≡ b
+unfolding letterOfTile
+letter-back set b c e =
+    let i : firstTile set + c - firstTile set ≡ c = omega arith in
+    rw (le-ltb (firstTile set + c) (firstTile set) (omega arith), i) (place-holds set b c e)
+
+-- ---- UTM
+
+-- "column index 0..7 is tile 1..8"
+first-by : (a b : Bool) → firstTile (cond a UtmColumns0 (cond b UtmColumns1 UtmColumns2)) ≡ 1
+unfolding firstTile
+first-by true b = refl
+first-by false true = refl
+first-by false false = refl
+
+utm-first : (zone : ℤ) (band : ℕ) → gridOf zone ≡ Utm → firstTile (columnsOf zone band) ≡ 1
+unfolding columnsOf utmColumns
+utm-first zone band g = let m = floorMod (zone -ℤ pos 1) 3 in rw g (first-by (eqb m 0) (eqb m 1))
+
+-- ---- UPS
+
+-- the tiles of a band's columns, and those of its half: the first, and the one past the last
+abbrev columnTiles : ℕ → ℕ × ℕ
+columnTiles b = (firstTile (upsColumns b), firstTile (upsColumns b) + sizeOf (upsColumns b))
+
+abbrev halfTiles : ℕ → ℕ × ℕ
+halfTiles b = (westTile (northBand b) (eastBand b), eastTile (northBand b) (eastBand b))
+
+-- they are the same, by one computation over the four bands
+half-columns : (band k : ℕ) → placeOf UpsBands band ≡ At k → columnTiles band ≡ halfTiles band
+unfolding letterAt firstTile upsColumns eastBand
+half-columns band k e =
+    rw (← place-holds UpsBands band k e)
+    (alike (λ k. columnTiles (letterAt UpsBands k)) (λ k. halfTiles (letterAt UpsBands k)) 4 refl (0, 0) k (place-below UpsBands band k e))
+
+-- a hemisphere's rows are its tiles
+hemisphere-rows : (north : Bool) → let rows = cond north UpsRowsNorth UpsRowsSouth in
+    (firstTile rows ≡ lowTile north) × (firstTile rows + sizeOf rows ≡ highTile north)
+unfolding firstTile
+hemisphere-rows true = (refl, refl)
+hemisphere-rows false = (refl, refl)
+
+-- so the tiles of two places are in the band's half
+in-half : (zone : ℤ) (band k column row c l : ℕ) → gridOf zone ≡ Ups → placeOf (bandsOf zone) band ≡ At k
+    → placeOf (columnsOf zone band) column ≡ At c → placeOf (rowsOf zone (northBand band)) row ≡ At l
+    → Polar (northBand band) (eastBand band) (firstTile (columnsOf zone band) + c) (firstTile (rowsOf zone (northBand band)) + l)
+unfolding bandsOf columnsOf rowsOf
+in-half zone band k column row c l g b x y =
+    let e = half-columns band k (rw g at b) in
+    let west = ap (λ (v : ℕ × ℕ). v .0) e in
+    let east = ap (λ (v : ℕ × ℕ). v .1) e in
+    let rows = hemisphere-rows (northBand band) in
+    let low = rows .0 in
+    let high = rows .1 in
+    let i = place-below (upsColumns band) column c (rw g at x) in
+    let j = place-below (cond (northBand band) UpsRowsNorth UpsRowsSouth) row l (rw g at y) in
+    rw g (record { from-west = omega arith; to-east = omega arith; from-low = omega arith; to-high = omega arith })
+
+-- ---- both
+
+module _ (zone : ℤ) (band k column row c l : ℕ) (t : Tiles) (b : placeOf (bandsOf zone) band ≡ At k)
+    (is-column : placeOf (columnsOf zone band) column ≡ At c) (is-row : placeOf (rowsOf zone (northBand band)) row ≡ At l) where
+  module _ (z : Kind zone false) where
+    -- on the row that resolution answers
+    on-row : (a : RowAnswer) → resolve (shiftOf zone) (pos k -ℤ pos 10) c l ≡ a → onRow (firstTile (columnsOf zone band) + c) a ≡ Block t
+        → Stands zone band k column row t
+    unfolding rowLetter
+    on-row (Row found) e x =
+        let q : record { easting = firstTile (columnsOf zone band) + c; northing = tileOf (found .row) } ≡ t = cc in
+        let r = answered (pos k -ℤ pos 10) c (shiftOf zone) l found e in
+        let h = in-rows (pos k -ℤ pos 10) c (found .row) (r .0) in
+        let s = row-side zone band k c (found .row) (z .grid) b (r .0) in
+        rw (← q)
+        (record {
+          inside = rw (utm-first zone band (z .grid)) (utm-inside zone band k c (found .row) z b (r .0));
+          column-is = letter-back (columnsOf zone band) column c is-column;
+          row-is = rw (z .test) (rw (s, row-back (found .row) (h .0), r .1) (rw s at (place-holds (rowsOf zone (northBand band)) row l is-row)));
+        })
+    on-row Nothing e x = clash (cc)
+
+    -- the tiles of a UTM block
+    utm-stands : utmBlock zone k c l (firstTile (columnsOf zone band) + c) ≡ Block t → Stands zone band k column row t
+    unfolding utmBlock
+    utm-stands x = on-row (resolve (shiftOf zone) (pos k -ℤ pos 10) c l) refl x
+
+  -- and those of a UPS block
+  ups-stands : Kind zone true → tilesOf (firstTile (columnsOf zone band) + c) (firstTile (rowsOf zone (northBand band)) + l) ≡ Block t
+      → Stands zone band k column row t
+  unfolding rowLetter
+  ups-stands z x =
+      let q : record { easting = firstTile (columnsOf zone band) + c; northing = firstTile (rowsOf zone (northBand band)) + l } ≡ t = cc in
+      rw (← q)
+      (record {
+        inside = ups-inside zone band k _ _ z (in-half zone band k column row c l (z .grid) b is-column is-row);
+        column-is = letter-back (columnsOf zone band) column c is-column;
+        row-is = rw (z .test) (letter-back (rowsOf zone (northBand band)) row l is-row);
+      })
+
+  -- of either kind
+  by-kind : (ups : Bool) → Kind zone ups
+      → cond ups (tilesOf (firstTile (columnsOf zone band) + c) (firstTile (rowsOf zone (northBand band)) + l)) (utmBlock zone k c l (firstTile (columnsOf zone band) + c)) ≡ Block t
+      → Stands zone band k column row t
+  by-kind true z x = ups-stands z x
+  by-kind false z x = utm-stands z x
+
+-- of every block that was read
+pub stands : (zone : ℤ) (band k column row : ℕ) (t : Tiles) → placeOf (bandsOf zone) band ≡ At k → blockOf zone band k column row ≡ Block t
+    → Stands zone band k column row t
+stands zone band k column row t b e =
+    let p = placed zone band k column row t e in
+    by-kind zone band k column row (p .c) (p .l) t b (p .is-column) (p .is-row) (ltZ zone (pos 1)) (kind zone band k b) (p .then)

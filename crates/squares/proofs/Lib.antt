@@ -1,0 +1,3 @@
+mod Sizes
+mod Answers
+pub mod Unique

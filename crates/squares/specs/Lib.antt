@@ -1,0 +1,2 @@
+pub mod Shorten
+pub mod Covers

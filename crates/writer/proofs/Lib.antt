@@ -1,0 +1,5 @@
+mod Sides
+pub mod Stores
+pub mod Stages
+pub mod Room
+pub mod Unique

@@ -1,0 +1,81 @@
+-- `writer::compose_at` meets its contract, by what the band, its fit and the parts ensure.
+-- Assumes nothing.
+use mathlib.Core.Path.{_≡_, sym, _∙_}
+use native.Mathlib.Omega.{arith}
+use mir.Facts.{toZ-ofZ}
+use Rattle.letters.specs.declared.Place.the-variants.{At}
+use Rattle.letters.specs.Letters.{placeOf}
+use Rattle.letters.specs.Sets.{bandsOf}
+use Rattle.letters.proofs.Laws.{place-below, size-le}
+use Rattle.writer.specs.Compose.{composedAt}
+use borrow.Author.Needs.{needs}
+use Rattle.writer.proofs.compose_at.Statement.{statement}
+use Rattle.writer.proofs.compose_at.Tie as tie
+
+bands-of-requires : tie.Need-bands-of-requires
+bands-of-requires c κs = search needs
+
+place-of-requires : tie.Need-place-of-requires
+place-of-requires c κs = search needs
+
+enum-known-k : tie.Need-enum-known-k
+enum-known-k c = search needs
+
+enum-told : tie.Need-enum-told
+enum-told c = search needs
+
+band : (c : tie.After-place-of) → let s = c .before .before in c .place-of .result ≡ placeOf (bandsOf (s .args .zone)) (s .args .band)
+band c = let e = rw (toZ-ofZ (c .before .before .fits .zone)) at (c .before .bands-of .ensures) in rw e at (c .place-of .ensures)
+
+band-at : (c : tie.After-known-told) → let s = c .before .before .before .before .before in placeOf (bandsOf (s .args .zone)) (s .args .band) ≡ At (c .before .k .given .0 .0)
+band-at c = sym (band (c .before .before .before)) ∙ c .before .k .given .1
+
+returns : tie.Need-returns
+unfolding composedAt
+returns c = let k = sym (band (c .before .before)) ∙ c .enum-told .given .1 in rw k
+
+is-fitting-requires : tie.Need-is-fitting-requires
+is-fitting-requires c κs =
+    let s = c .before .before .before .before .before in
+    let h = s .pre .0 in
+    let n = s .fits .n .fits in
+    let a = place-below _ _ _ (band-at c) in
+    let b = size-le (bandsOf (s .args .zone)) in
+    (omega arith, omega arith, omega arith)
+
+returns-2 : tie.Need-returns-2
+unfolding composedAt
+returns-2 c =
+    let f = c .before in
+    let k = f .before in
+    let s = k .before .before .before .before .before in
+    let e = rw (toZ-ofZ (s .fits .zone)) at (f .is-fitting .ensures) in
+    rw (band-at k, ← e, c .if1 .taken)
+
+made-of-requires : tie.Need-made-of-requires
+made-of-requires c κs = search needs
+
+returns-3 : tie.Need-returns-3
+unfolding composedAt
+returns-3 c =
+    let t = c .before in
+    let f = t .before in
+    let k = f .before in
+    let s = k .before .before .before .before .before in
+    let e = rw (toZ-ofZ (s .fits .zone)) at (f .is-fitting .ensures) in
+    let m = rw (toZ-ofZ (s .fits .zone), toZ-ofZ (s .fits .p)) at (c .made-of .ensures) in
+    rw (band-at k, ← e, t .if1 .left, m)
+
+pub compose-at-spec : {M : Type 1} → statement M
+compose-at-spec =
+    tie.close
+    (tie.spec
+    bands-of-requires
+    place-of-requires
+    enum-known-k
+    enum-told
+    returns
+    is-fitting-requires
+    returns-2
+    made-of-requires
+    returns-3)

@@ -1,0 +1,45 @@
+-- `writer::utm_fits` meets its contract, by what `is_allowed` ensures.
+-- Assumes nothing.
+use mathlib.Core.Path.{_≡_}
+use native.Mathlib.Omega.{arith}
+use borrow.Author.Needs.{needs}
+use lib.Dec.{lit≤}
+use lib.IntN.{pos, _-ℤ_}
+use mir.Syntax.{w64}
+use mir.Val.{SFits, toZ}
+use mir.Facts.{toZ-ofZ, toZ-pos}
+use Rattle.whole.proofs.Small.{fits, count, difference}
+use Rattle.writer.specs.Compose.{utmFits}
+use Rattle.writer.proofs.utm_fits.Statement.{statement}
+use Rattle.writer.proofs.utm_fits.Tie as tie
+
+place : (c : tie.Start) → toZ w64 (c .args .k) ≡ pos (c .args .k)
+place c = let h = c .pre .0 in toZ-pos w64 (omega arith)
+
+band-fits : (c : tie.Start) → SFits w64 (pos (c .args .k) -ℤ pos 10)
+band-fits c =
+    let h = c .pre .0 in
+    fits (difference (pos (c .args .k)) (pos 10) (count 24 (c .args .k) (omega arith)) (count 10 10 (lit≤ tt))) (lit≤ tt)
+
+cast-is-allowed : tie.Need-cast-is-allowed
+cast-is-allowed c = search needs
+
+sub-is-allowed : tie.Need-sub-is-allowed
+sub-is-allowed c = rw (place c) (band-fits c)
+
+sub-is-allowed-2 : tie.Need-sub-is-allowed-2
+sub-is-allowed-2 c = search needs
+
+is-allowed-requires : tie.Need-is-allowed-requires
+is-allowed-requires c κs = search needs
+
+returns : tie.Need-returns
+unfolding utmFits
+returns c =
+    let s = c .before in
+    rw (place s, toZ-ofZ (band-fits s), toZ-ofZ (s .fits .row)) at (c .is-allowed .ensures)
+
+pub utm-fits-spec : {M : Type 1} → statement M
+utm-fits-spec =
+    tie.close
+    (tie.spec cast-is-allowed sub-is-allowed sub-is-allowed-2 is-allowed-requires returns)
