@@ -1,7 +1,7 @@
 // Puts lines of the listing into buffers that are too short, just long enough and longer, and prints each with the answer
 // and all of its bytes, those that have to stay among them. The gate holds what is printed to the file stdout.
 use libc::STDOUT_FILENO;
-use listing::Listed;
+use writer::Written;
 
 fn say(text: &[u8]) {
     io::write_all(STDOUT_FILENO, text);
@@ -11,11 +11,11 @@ fn say(text: &[u8]) {
 fn shown(text: &[u8], number: u64, out: &mut [u8]) {
     say(text);
     match listing::list_line(text, number, out) {
-        Listed::Length(n) => {
+        Written::Length(n) => {
             say(b" length ");
             io::print_decimal(STDOUT_FILENO, n as u64);
         }
-        Listed::Refused(n) => {
+        Written::Refused(n) => {
             say(b" R ");
             io::print_decimal(STDOUT_FILENO, n);
         }

@@ -1,13 +1,12 @@
 -- Whatever the writer composes reads back: to its zone, band and digit count, and to the square that holds the point after
 -- the edge rules. Assumes nothing.
 use mathlib.Core.Path.{_≡_, refl, sym, ap, _∙_}
-use mathlib.Core.Bool.{Bool, true, false, cond}
+use mathlib.Core.Bool.{Bool, true, false}
 use mathlib.Core.List.{List, [], _++_, append-nil}
 use Prim.Native.Nat.{ℕ, zero, suc, _+_, _*_, _/_, _%_, _^_, _≤_, _<_}
 use native.Mathlib.Nat.{mul-assoc, div-add-mod', add-mul-div-right, div-lt-iff-lt-mul}
 use native.Mathlib.Omega.{arith}
 use borrow.Author.Tests.{ltb-false, le-ltb, eq-eqb, ne-eqb}
-use lib.Dec.{ltb}
 use lib.IntN.{ℤ, pos, negsuc}
 use lib.Signed.{ltZ}
 use lib.ListN.{length, take, drop, length-append}
@@ -15,6 +14,7 @@ use lib.Seq.{take-at, drop-at}
 use Rattle.whole.specs.Compare.{outside}
 use Rattle.whole.specs.Floor.{fold}
 use Rattle.whole.proofs.Parts.{clash}
+use Rattle.whole.proofs.Ranges.{not-outside}
 use Rattle.letters.specs.declared.Place.the-variants.{At}
 use Rattle.letters.specs.Letters.{placeOf}
 use Rattle.letters.specs.Sets.{gridOf, bandsOf, columnsOf, rowsOf, northBand}
@@ -39,14 +39,16 @@ use Rattle.reader.proofs.Stages.{placed}
 use Rattle.writer.specs.declared.BareZone.{BareZone}
 use Rattle.writer.specs.declared.Composed.{Composed}
 use Rattle.writer.specs.declared.Composed.the-variants.{Full, Bare as BareText, Refused as NotComposed}
-use Rattle.writer.specs.declared.Written.the-variants.{Length, Refused as TooShort}
+use Rattle.writer.specs.declared.Written.the-variants.{Length}
 use Rattle.writer.specs.Text.{headText, blockText, fullText}
 use Rattle.writer.specs.Compose.{tileOf, cutOf, fits, letterOfTile, rowLetter, partsAt, composed}
 use Rattle.writer.specs.Write.{fitOf, leavesOf, answered, kept, writeOf, writeLeaves}
-use Rattle.writer.proofs.Stages.{Checked, full, bare, not-outside}
+use Rattle.writer.proofs.Fit.{held, fitted}
+use Rattle.writer.proofs.Stages.{Checked, full, bare}
 use Rattle.laws.specs.Trips.{around, squareAt, backOf, SquareBack, BareBack}
 use Rattle.laws.proofs.Heads.{capital-is, not-high, starts}
-use Rattle.laws.proofs.PointLetters.{Reads, utm-grid, utm-reads, first, end, ups-reads}
+use Rattle.laws.proofs.Inside.{lowTile, highTile}
+use Rattle.laws.proofs.PointLetters.{Reads, utm-grid, utm-reads, ups-reads}
 
 -- ---- the digits
 
@@ -152,7 +154,7 @@ tile-to : (low high : ℕ) (x : ℤ) → Counted low high x → tileOf (fold x) 
 tile-to low high x c = let h = c .lt in rw (c .is) (omega arith)
 
 -- both coordinates of a UPS point, by its hemisphere
-polar-within : (point : Point) (t : Bool) → point .north ≡ t → UpsReach point → Within (first t) (end t) point
+polar-within : (point : Point) (t : Bool) → point .north ≡ t → UpsReach point → Within (lowTile t) (highTile t) point
 polar-within point true e r = r .north e
 polar-within point false e r = r .south e
 
@@ -177,8 +179,8 @@ module _ (north : Bool) (band : ℕ) (e n : ℤ) (point : Point) (k : ℕ) where
       let t = point .north in
       let w = polar-within point t refl (ups-reach (pos 0) north e n point h refl) in
       ups-reads band k t _ _ place fit
-      (tile-from (first t) (end t) (point .easting) (w .east)) (tile-to (first t) (end t) (point .easting) (w .east))
-      (tile-from (first t) (end t) (point .northing) (w .north)) (tile-to (first t) (end t) (point .northing) (w .north))
+      (tile-from (lowTile t) (highTile t) (point .easting) (w .east)) (tile-to (lowTile t) (highTile t) (point .easting) (w .east))
+      (tile-from (lowTile t) (highTile t) (point .northing) (w .north)) (tile-to (lowTile t) (highTile t) (point .northing) (w .north))
 
   point-reads : (z : ℕ) → z ≤ 60 → mgrsCheck (pos z) north e n ≡ Moved point → placeOf (bandsOf (pos z)) band ≡ At k → PointFits (pos z) band k point → PointReads (pos z) band k point
   point-reads zero most h place fit = ups-point h place fit
@@ -214,14 +216,11 @@ bare-at (pos z) band k h place =
     ap readOf (sym (append-nil (headText (pos z) band))) ∙ rw (s .is-head, s .after)
 
 -- what is written into a buffer with room is the text
-fit-by : (t l : List ℕ) (m : ℕ) (short : Bool) → cond short (TooShort 20) (Length (length t)) ≡ Length m → take m (cond short l (t ++ drop (length t) l)) ≡ t
-fit-by t l m true e = clash (cc)
-fit-by t l m false e = let k : length t ≡ m = cc in take-at t (drop (length t) l) m k
-
--- the same of a text
 written : (t l : List ℕ) (m : ℕ) → fitOf t (length l) ≡ Length m → take m (leavesOf t l) ≡ t
-unfolding fitOf leavesOf
-written t l m e = fit-by t l m (ltb (length l) (length t)) e
+written t l m e =
+    let f = fitted t (length l) m e in
+    let k : length t ≤ length l = omega (arith, f .0, f .1) in
+    ap (take m) (held t l k) ∙ take-at t (drop (length t) l) m (sym (f .0))
 
 -- ---- the laws
 

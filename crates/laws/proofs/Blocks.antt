@@ -5,18 +5,16 @@ use mathlib.Core.Bool.{Bool, true, false, cond}
 use Prim.Native.Nat.{ℕ, _+_, _-_}
 use native.Mathlib.Omega.{arith}
 use borrow.Author.Tests.{le-ltb}
-use lib.Dec.{eqb}
 use lib.IntN.{ℤ, pos, _-ℤ_}
 use lib.Signed.{ltZ}
-use Rattle.whole.specs.Floor.{floorMod}
 use Rattle.whole.proofs.Parts.{clash}
-use Rattle.letters.specs.declared.Grid.the-variants.{Utm, Ups}
+use Rattle.letters.specs.declared.Grid.the-variants.{Ups}
 use Rattle.letters.specs.declared.LetterSet.{LetterSet}
-use Rattle.letters.specs.declared.LetterSet.the-variants.{UpsBands, UtmColumns0, UtmColumns1, UtmColumns2, UpsRowsSouth, UpsRowsNorth}
+use Rattle.letters.specs.declared.LetterSet.the-variants.{UpsRowsSouth, UpsRowsNorth}
 use Rattle.letters.specs.declared.Place.the-variants.{At}
-use Rattle.letters.specs.Letters.{placeOf, letterAt, firstTile}
-use Rattle.letters.specs.Sets.{gridOf, bandsOf, utmColumns, upsColumns, columnsOf, rowsOf, northBand, eastBand}
-use Rattle.letters.proofs.Laws.{sizeOf, place-below, place-holds}
+use Rattle.letters.specs.Letters.{placeOf, firstTile}
+use Rattle.letters.specs.Sets.{gridOf, bandsOf, upsColumns, columnsOf, rowsOf, northBand, eastBand}
+use Rattle.letters.proofs.Laws.{place-below, place-holds}
 use Rattle.rows.specs.declared.RowAnswer.{RowAnswer}
 use Rattle.rows.specs.declared.RowAnswer.the-variants.{Row, Nothing}
 use Rattle.rows.specs.Letters.{shiftOf}
@@ -27,7 +25,7 @@ use Rattle.reader.specs.declared.BlockAnswer.the-variants.{Block}
 use Rattle.reader.specs.Block.{tileOf, tilesOf, onRow, utmBlock, blockOf}
 use Rattle.reader.proofs.Stages.{placed}
 use Rattle.writer.specs.Compose.{letterOfTile, rowLetter}
-use Rattle.laws.proofs.Inside.{alike, Kind, kind, Inside, row-side, row-back, utm-inside, lowTile, highTile, westTile, eastTile, Polar, ups-inside}
+use Rattle.laws.proofs.Inside.{Kind, kind, utm-columns, Inside, row-side, row-back, utm-inside, half-columns, hemisphere-rows, Polar, ups-inside}
 
 -- what is known of the tiles of a block
 pub record Stands (zone : ℤ) (band k column row : ℕ) (t : Tiles) : Type 0 where
@@ -42,41 +40,7 @@ letter-back set b c e =
     let i : firstTile set + c - firstTile set ≡ c = omega arith in
     rw (le-ltb (firstTile set + c) (firstTile set) (omega arith), i) (place-holds set b c e)
 
--- ---- UTM
-
--- "column index 0..7 is tile 1..8"
-first-by : (a b : Bool) → firstTile (cond a UtmColumns0 (cond b UtmColumns1 UtmColumns2)) ≡ 1
-unfolding firstTile
-first-by true b = refl
-first-by false true = refl
-first-by false false = refl
-
-utm-first : (zone : ℤ) (band : ℕ) → gridOf zone ≡ Utm → firstTile (columnsOf zone band) ≡ 1
-unfolding columnsOf utmColumns
-utm-first zone band g = let m = floorMod (zone -ℤ pos 1) 3 in rw g (first-by (eqb m 0) (eqb m 1))
-
 -- ---- UPS
-
--- the tiles of a band's columns, and those of its half: the first, and the one past the last
-abbrev columnTiles : ℕ → ℕ × ℕ
-columnTiles b = (firstTile (upsColumns b), firstTile (upsColumns b) + sizeOf (upsColumns b))
-
-abbrev halfTiles : ℕ → ℕ × ℕ
-halfTiles b = (westTile (northBand b) (eastBand b), eastTile (northBand b) (eastBand b))
-
--- they are the same, by one computation over the four bands
-half-columns : (band k : ℕ) → placeOf UpsBands band ≡ At k → columnTiles band ≡ halfTiles band
-unfolding letterAt firstTile upsColumns eastBand
-half-columns band k e =
-    rw (← place-holds UpsBands band k e)
-    (alike (λ k. columnTiles (letterAt UpsBands k)) (λ k. halfTiles (letterAt UpsBands k)) 4 refl (0, 0) k (place-below UpsBands band k e))
-
--- a hemisphere's rows are its tiles
-hemisphere-rows : (north : Bool) → let rows = cond north UpsRowsNorth UpsRowsSouth in
-    (firstTile rows ≡ lowTile north) × (firstTile rows + sizeOf rows ≡ highTile north)
-unfolding firstTile
-hemisphere-rows true = (refl, refl)
-hemisphere-rows false = (refl, refl)
 
 -- so the tiles of two places are in the band's half
 in-half : (zone : ℤ) (band k column row c l : ℕ) → gridOf zone ≡ Ups → placeOf (bandsOf zone) band ≡ At k
@@ -110,7 +74,7 @@ module _ (zone : ℤ) (band k column row c l : ℕ) (t : Tiles) (b : placeOf (ba
         let s = row-side zone band k c (found .row) (z .grid) b (r .0) in
         rw (← q)
         (record {
-          inside = rw (utm-first zone band (z .grid)) (utm-inside zone band k c (found .row) z b (r .0));
+          inside = rw (utm-columns zone band (z .grid) .0) (utm-inside zone band k c (found .row) z b (r .0));
           column-is = letter-back (columnsOf zone band) column c is-column;
           row-is = rw (z .test) (rw (s, row-back (found .row) (h .0), r .1) (rw s at (place-holds (rowsOf zone (northBand band)) row l is-row)));
         })

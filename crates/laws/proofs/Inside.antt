@@ -5,19 +5,20 @@ use mathlib.Core.Bool.{Bool, true, false, cond, _||_}
 use Prim.Native.Nat.{ℕ, _+_, _-_, _≤_, _<_}
 use native.Mathlib.Omega.{arith}
 use borrow.Author.Tests.{le-leb, lt-leb}
-use lib.Dec.{T, leb, leb→le}
+use lib.Dec.{T, eqb, leb, leb→le}
 use lib.IntN.{ℤ, pos, negsuc, _-ℤ_}
 use lib.Signed.{ltZ, _≤ℤ_}
 use mir.Facts.{and-yes}
 use Rattle.whole.specs.Compare.{outside}
+use Rattle.whole.specs.Floor.{floorMod}
 use Rattle.whole.proofs.Parts.{up, dn, clash, eq-by, sub-parts, ≤ℤ-parts}
 use Rattle.whole.proofs.Table.{values, row}
 use Rattle.letters.specs.declared.Grid.the-variants.{Utm, Ups, NoZone}
-use Rattle.letters.specs.declared.LetterSet.the-variants.{UtmBands}
+use Rattle.letters.specs.declared.LetterSet.the-variants.{UtmBands, UpsBands, UtmColumns0, UtmColumns1, UtmColumns2, UpsRowsSouth, UpsRowsNorth}
 use Rattle.letters.specs.declared.Place.the-variants.{At, NotInSet}
-use Rattle.letters.specs.Letters.{placeFrom, placeOf, letterAt}
-use Rattle.letters.specs.Sets.{gridOf, bandsOf, northBand, eastBand}
-use Rattle.letters.proofs.Laws.{place-below, place-holds}
+use Rattle.letters.specs.Letters.{placeFrom, placeOf, letterAt, firstTile}
+use Rattle.letters.specs.Sets.{gridOf, bandsOf, utmColumns, upsColumns, columnsOf, northBand, eastBand}
+use Rattle.letters.proofs.Laws.{sizeOf, place-below, place-holds}
 use Rattle.rows.specs.Allowed.{within, sameSign, folded, allowed}
 use Rattle.rows.proofs.Theorems.{in-rows, own-sign}
 use Rattle.position.specs.declared.MgrsCheck.the-variants.{Moved}
@@ -54,6 +55,17 @@ no-bands zone band k e g = let x : NotInSet ≡ At k = rw g at e in clash (cc)
 -- so a zone with a band is one
 pub kind : (zone : ℤ) (band k : ℕ) → placeOf (bandsOf zone) band ≡ At k → Kind zone (ltZ zone (pos 1))
 kind zone band k e = kind-by zone (ltZ zone (pos 0)) (ltZ (pos 60) zone) (ltZ zone (pos 1)) refl refl refl (no-bands zone band k e)
+
+-- "column index 0..7 is tile 1..8": the columns of a UTM zone are eight, from the first tile on
+columns-by : (a b : Bool) → let set = cond a UtmColumns0 (cond b UtmColumns1 UtmColumns2) in (firstTile set ≡ 1) × (sizeOf set ≡ 8)
+unfolding firstTile
+columns-by true b = (refl, refl)
+columns-by false true = (refl, refl)
+columns-by false false = (refl, refl)
+
+pub utm-columns : (zone : ℤ) (band : ℕ) → gridOf zone ≡ Utm → (firstTile (columnsOf zone band) ≡ 1) × (sizeOf (columnsOf zone band) ≡ 8)
+unfolding columnsOf utmColumns
+utm-columns zone band g = let m = floorMod (zone -ℤ pos 1) 3 in rw g (columns-by (eqb m 0) (eqb m 1))
 
 -- ---- the tiles
 
@@ -136,6 +148,27 @@ westTile north east = cond east 20 (lowTile north)
 
 abbrev pub eastTile : Bool → Bool → ℕ
 eastTile north east = cond east (highTile north) 20
+
+-- the tiles of a band's columns, and those of its half: the first, and the one past the last
+abbrev pub columnTiles : ℕ → ℕ × ℕ
+columnTiles b = (firstTile (upsColumns b), firstTile (upsColumns b) + sizeOf (upsColumns b))
+
+abbrev pub halfTiles : ℕ → ℕ × ℕ
+halfTiles b = (westTile (northBand b) (eastBand b), eastTile (northBand b) (eastBand b))
+
+-- they are the same, by one computation over the four bands
+pub half-columns : (band k : ℕ) → placeOf UpsBands band ≡ At k → columnTiles band ≡ halfTiles band
+unfolding letterAt firstTile upsColumns eastBand
+half-columns band k e =
+    rw (← place-holds UpsBands band k e)
+    (alike (λ k. columnTiles (letterAt UpsBands k)) (λ k. halfTiles (letterAt UpsBands k)) 4 refl (0, 0) k (place-below UpsBands band k e))
+
+-- a hemisphere's rows are its tiles
+pub hemisphere-rows : (north : Bool) → let rows = cond north UpsRowsNorth UpsRowsSouth in
+    (firstTile rows ≡ lowTile north) × (firstTile rows + sizeOf rows ≡ highTile north)
+unfolding firstTile
+hemisphere-rows true = (refl, refl)
+hemisphere-rows false = (refl, refl)
 
 -- tiles in a half of a hemisphere
 pub record Polar (north east : Bool) (e n : ℕ) : Type 0 where

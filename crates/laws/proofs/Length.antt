@@ -5,8 +5,7 @@ use mathlib.Core.Bool.{Bool, true, false, cond}
 use mathlib.Core.List.{List}
 use Prim.Native.Nat.{ℕ, _+_, _*_, _≤_}
 use native.Mathlib.Omega.{arith}
-use borrow.Author.Tests.{ltb-true, ltb-false, le-ltb}
-use lib.Dec.{ltb}
+use borrow.Author.Tests.{ltb-true}
 use lib.IntN.{ℤ, pos, negsuc}
 use lib.ListN.{length}
 use lib.Signed.{ltZ}
@@ -21,23 +20,14 @@ use Rattle.writer.specs.declared.Written.the-variants.{Length, Refused as NotWr
 use Rattle.writer.specs.Text.{headText, headLength, fullText}
 use Rattle.writer.specs.Compose.{partsAt, composed}
 use Rattle.writer.specs.Write.{fitOf, answered, writeOf}
+use Rattle.writer.proofs.Fit.{room, fitted}
 use Rattle.writer.proofs.Stores.{head-length, length-le, full-length}
 use Rattle.writer.proofs.Stages.{full, bare, few}
 use Rattle.laws.specs.Trips.{lengthOf, backOf}
 
--- a length that is answered is the text's, and has room
-fit-by : (t : List ℕ) (m k : ℕ) (short : Bool) → ltb m (length t) ≡ short → cond short (NotWritten 20) (Length (length t)) ≡ Length k → (k ≡ length t) × (k ≤ m)
-fit-by t m k true e x = clash (cc)
-fit-by t m k false e x = let s : length t ≡ k = cc in (sym s, omega (arith, ltb-false m (length t) e))
-
-fitted : (t : List ℕ) (m k : ℕ) → fitOf t m ≡ Length k → (k ≡ length t) × (k ≤ m)
-unfolding fitOf
-fitted t m k x = fit-by t m k (ltb m (length t)) refl x
-
 -- a text that has room is not refused
 not-refused : (t : List ℕ) (m k : ℕ) → length t ≤ m → fitOf t m ≡ NotWritten k → ⊥
-unfolding fitOf
-not-refused t m k h x = let y : Length (length t) ≡ NotWritten k = rw (le-ltb m (length t) h) at x in clash (cc)
+not-refused t m k h x = let y : Length (length t) ≡ NotWritten k = sym (room t m h) ∙ x in clash (cc)
 
 -- the sum of the writer's parts is the rule
 sum-by : (n : ℕ) (ups : Bool) → cond ups 1 3 + 2 + n + n ≡ cond ups (3 + 2 * n) (5 + 2 * n)

@@ -10,4 +10,5 @@ pub mod Heads
 pub mod PointLetters
 pub mod Back
 pub mod Length
+pub mod Shifts
 pub mod Starred

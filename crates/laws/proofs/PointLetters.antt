@@ -1,27 +1,26 @@
 -- The column and the row letter that the writer gives a fitting point are read as the point's two tiles. Assumes nothing.
 use mathlib.Core.Path.{_≡_, refl, sym, ap, _∙_, subst}
-use mathlib.Core.Bool.{Bool, true, false, cond, _&&_}
+use mathlib.Core.Bool.{Bool, true, false}
 use Prim.Native.Nat.{ℕ, _+_, _-_, _≤_, _<_}
 use native.Mathlib.Omega.{arith}
-use borrow.Author.Tests.{le-ltb, leb-true, leb-false, eqb-true}
-use lib.Dec.{T, leb, eqb}
+use borrow.Author.Tests.{le-ltb, leb-true, leb-false}
+use lib.Dec.{T, leb}
 use lib.IntN.{ℤ, pos, negsuc, _-ℤ_}
 use mir.Facts.{and-yes}
-use Rattle.whole.specs.Floor.{floorMod}
-use Rattle.whole.proofs.Parts.{up, dn, clash, T-true, eq-by, sub-parts}
-use Rattle.whole.proofs.Table.{all, each}
+use Rattle.whole.proofs.Parts.{up, dn, T-true, eq-by, sub-parts}
 use Rattle.letters.specs.declared.LetterSet.{LetterSet}
-use Rattle.letters.specs.declared.LetterSet.the-variants.{UtmBands, UpsBands, UtmColumns0, UtmColumns1, UtmColumns2, UtmRows, UpsRowsNorth, UpsRowsSouth}
+use Rattle.letters.specs.declared.LetterSet.the-variants.{UtmRows}
 use Rattle.letters.specs.declared.Grid.the-variants.{Utm}
 use Rattle.letters.specs.declared.Place.the-variants.{At}
-use Rattle.letters.specs.Letters.{placeOf, letterAt, firstTile}
-use Rattle.letters.specs.Sets.{gridOf, bandsOf, utmColumns, upsColumns, columnsOf, rowsOf, northBand, eastBand}
-use Rattle.letters.proofs.Laws.{sizeOf, place-below, place-holds, letter-found}
+use Rattle.letters.specs.Letters.{placeOf, firstTile}
+use Rattle.letters.specs.Sets.{gridOf, bandsOf, columnsOf, rowsOf, northBand, eastBand}
+use Rattle.letters.proofs.Laws.{sizeOf, letter-found}
 use Rattle.rows.specs.Allowed.{allowed, sameSign}
 use Rattle.rows.specs.Letters.{shiftOf, letterOf}
 use Rattle.rows.proofs.Period.{letter-lt}
-use Rattle.rows.proofs.Theorems.{found, own-sign}
+use Rattle.rows.proofs.Theorems.{found}
 use Rattle.reader.specs.Block.{tileOf, tilesOf, utmBlock, blockOf}
+use Rattle.laws.proofs.Inside.{row-side, utm-columns, lowTile, highTile, westTile, eastTile, half-columns, hemisphere-rows}
 use Rattle.writer.specs.Compose.{rowOf, letterOfTile, utmFits, agree, upsFits, fits, rowLetter}
 
 -- ---- a tile of a set has its letter there
@@ -48,62 +47,28 @@ tile-back set t i = let h = i .least in omega arith
 
 -- ---- UTM
 
--- a difference of counts, below 0 and from 0 on
-below : (a b : ℕ) → a < b → pos a -ℤ pos b ≡ negsuc (b - 1 - a)
-unfolding up dn
-below a b h = let s = sub-parts (pos a) (pos b) in eq-by (pos a -ℤ pos b) (negsuc (b - 1 - a)) (omega arith)
-
-above : (a b : ℕ) → b ≤ a → pos a -ℤ pos b ≡ pos (a - b)
-unfolding up dn
-above a b h = let s = sub-parts (pos a) (pos b) in eq-by (pos a -ℤ pos b) (pos (a - b)) (omega arith)
-
--- the bands from N on are those from the tenth on: computed
-bands-side : T (all 20 (λ k. agree (leb 10 k) (northBand (letterAt UtmBands k))))
-unfolding letterAt
-bands-side = tt
-
 -- two truths that agree are one
 agreed : (a b : Bool) → T (agree a b) → b ≡ a
 agreed true b t = T-true b t
 agreed false true t = absurd t
 agreed false false t = refl
 
--- so a UTM band is northern exactly from the tenth place on
-band-side : (band k : ℕ) → placeOf UtmBands band ≡ At k → northBand band ≡ leb 10 k
-band-side band k e =
-    ap northBand (sym (place-holds UtmBands band k e))
-    ∙ agreed (leb 10 k) (northBand (letterAt UtmBands k)) (each 20 (λ k. agree (leb 10 k) (northBand (letterAt UtmBands k))) bands-side k (place-below UtmBands band k e))
+-- a southern tile's row
+southern : (tile : ℕ) → tile < 100 → pos tile -ℤ pos 100 ≡ negsuc (99 - tile)
+unfolding up dn
+southern tile h = let s = sub-parts (pos tile) (pos 100) in eq-by (pos tile -ℤ pos 100) (negsuc (99 - tile)) (omega arith)
 
--- a row on the band's side of the equator has the band's hemisphere
-side-by : (k tile : ℕ) (t north : Bool) → leb 10 k ≡ t → (north ≡ false → tile < 100) → sameSign (pos k -ℤ pos 10) (rowOf north tile) ≡ true → t ≡ north
+-- the row of a tile is on its side of the equator
+tile-side : (north : Bool) (tile : ℕ) → (north ≡ false → tile < 100) → sameSign (rowOf north tile) (pos 0) ≡ north
 unfolding rowOf
-side-by k tile true true p h e = refl
-side-by k tile false false p h e = refl
-side-by k tile true false p h e =
-    let a = above k 10 (leb-true 10 k p) in
-    let b = below tile 100 (h refl) in
-    let f = rw (a, b) at e in
-    clash (cc)
-side-by k tile false true p h e =
-    let a = below k 10 (leb-false 10 k p) in
-    let f = rw a at e in
-    clash (cc)
+tile-side true tile h = refl
+tile-side false tile h = rw (southern tile (h refl))
 
 -- the tile that a row is read as
 row-tile : (north : Bool) (tile : ℕ) → (north ≡ false → tile < 100) → tileOf (rowOf north tile) ≡ tile
 unfolding rowOf
 row-tile true tile h = refl
-row-tile false tile h = let g = h refl in rw (below tile 100 g) (omega arith)
-
--- the columns of every zone start at the first tile and are eight
-columns-by : (m : ℕ) → (firstTile (utmColumns m) ≡ 1) × (sizeOf (utmColumns m) ≡ 8)
-unfolding utmColumns firstTile
-columns-by m = by (eqb m 0) (eqb m 1)
-  where
-    by : (a b : Bool) → (firstTile (cond a UtmColumns0 (cond b UtmColumns1 UtmColumns2)) ≡ 1) × (sizeOf (cond a UtmColumns0 (cond b UtmColumns1 UtmColumns2)) ≡ 8)
-    by true b = (refl, refl)
-    by false true = (refl, refl)
-    by false false = (refl, refl)
+row-tile false tile h = let g = h refl in rw (southern tile g) (omega arith)
 
 -- what is read of the letters, and in which hemisphere
 pub record Reads (zone : ℤ) (band k : ℕ) (north : Bool) (column tile : ℕ) : Type 0 where
@@ -116,18 +81,10 @@ unfolding gridOf
 utm-grid z least most = rw (le-ltb z 0 (omega arith), le-ltb 60 z most, le-ltb z 1 least)
 
 module _ (z band k : ℕ) (north : Bool) (column tile : ℕ) (least : 1 ≤ z) (most : z ≤ 60) where
-  -- their sets
-  utm-bands : bandsOf (pos z) ≡ UtmBands
-  unfolding bandsOf
-  utm-bands = rw (utm-grid z least most)
-
+  -- their rows
   utm-rows : (side : Bool) → rowsOf (pos z) side ≡ UtmRows
   unfolding rowsOf
   utm-rows side = rw (utm-grid z least most)
-
-  utm-columns : (firstTile (columnsOf (pos z) band) ≡ 1) × (sizeOf (columnsOf (pos z) band) ≡ 8)
-  unfolding columnsOf
-  utm-columns = rw (utm-grid z least most) (columns-by (floorMod (pos z -ℤ pos 1) 3))
 
   module _ (place : placeOf (bandsOf (pos z)) band ≡ At k) (fit : fits (pos z) band k north column tile ≡ true)
       (from : 1 ≤ column) (to : column < 9) (south : north ≡ false → tile < 100) where
@@ -139,14 +96,14 @@ module _ (z band k : ℕ) (north : Bool) (column tile : ℕ) (least : 1 ≤ z) (
     -- the band is of the point's hemisphere
     utm-side : northBand band ≡ north
     utm-side =
-        band-side band k (rw utm-bands at place)
-        ∙ side-by k tile (leb 10 k) north refl south (own-sign (pos k -ℤ pos 10) (column - 1) (rowOf north tile) is-allowed)
+        row-side (pos z) band k (column - 1) (rowOf north tile) (utm-grid z least most) place is-allowed ∙ tile-side north tile south
 
     -- where the two letters stand
     utm-column : placeOf (columnsOf (pos z) band) (letterOfTile (columnsOf (pos z) band) column) ≡ At (column - 1)
     utm-column =
-        let f = utm-columns .0 in
-        let s = utm-columns .1 in
+        let c = utm-columns (pos z) band (utm-grid z least most) in
+        let f = c .0 in
+        let s = c .1 in
         tile-letter (columnsOf (pos z) band) column (record { least = omega arith; lt = omega arith }) ∙ ap (λ (x : ℕ). At (column - x)) f
 
     utm-row : placeOf (rowsOf (pos z) (northBand band)) (rowLetter (pos z) north tile) ≡ At (letterOf (shiftOf (pos z)) (rowOf north tile))
@@ -161,7 +118,7 @@ module _ (z band k : ℕ) (north : Bool) (column tile : ℕ) (least : 1 ≤ z) (
     utm-reads =
         let s = shiftOf (pos z) in
         let r = rowOf north tile in
-        let e : firstTile (columnsOf (pos z) band) + (column - 1) ≡ column = omega (arith, utm-columns .0) in
+        let e : firstTile (columnsOf (pos z) band) + (column - 1) ≡ column = omega (arith, utm-columns (pos z) band (utm-grid z least most) .0) in
         record {
           side = utm-side;
           block = rw (
@@ -176,48 +133,13 @@ module _ (z band k : ℕ) (north : Bool) (column tile : ℕ) (least : 1 ≤ z) (
 
 -- ---- UPS
 
--- the tiles of a hemisphere, and of one side of it: west and east part at the twentieth
-abbrev pub first : Bool → ℕ
-first north = cond north 13 8
-
-abbrev pub end : Bool → ℕ
-end north = cond north 27 32
-
 -- a column of the hemisphere lies in its side's half
-in-half : (north east : Bool) (column : ℕ) → leb 20 column ≡ east → first north ≤ column → column < end north → In (cond east 20 (first north)) (cond east (end north) 20) column
+in-half : (north east : Bool) (column : ℕ) → leb 20 column ≡ east → lowTile north ≤ column → column < highTile north → In (westTile north east) (eastTile north east) column
 in-half north true column e h g = record { least = leb-true 20 column e; lt = g }
 in-half north false column e h g = record { least = h; lt = leb-false 20 column e }
 
--- the columns of a band are its half, computed for the four bands
-abbrev halved : ℕ → Bool
-halved band =
-    let set = upsColumns band in
-    eqb (firstTile set) (cond (eastBand band) 20 (first (northBand band)))
-    && eqb (firstTile set + sizeOf set) (cond (eastBand band) (end (northBand band)) 20)
-
-all-halved : T (all 4 (λ k. halved (letterAt UpsBands k)))
-unfolding letterAt upsColumns firstTile eastBand
-all-halved = tt
-
--- the same as equations
-record Half (band : ℕ) : Type 0 where
-  pub starts : firstTile (upsColumns band) ≡ cond (eastBand band) 20 (first (northBand band))
-  pub ends : firstTile (upsColumns band) + sizeOf (upsColumns band) ≡ cond (eastBand band) (end (northBand band)) 20
-
-half : (band k : ℕ) → placeOf UpsBands band ≡ At k → Half band
-half band k e =
-    let t = subst (λ (b : ℕ). T (halved b)) (place-holds UpsBands band k e) (each 4 (λ k. halved (letterAt UpsBands k)) all-halved k (place-below UpsBands band k e)) in
-    let s = and-yes (eqb (firstTile (upsColumns band)) (cond (eastBand band) 20 (first (northBand band)))) _ t in
-    record { starts = eqb-true _ _ (T-true _ (s .0)); ends = eqb-true _ _ (T-true _ (s .1)) }
-
--- the rows of a hemisphere are all of its tiles
-rows-by : (north : Bool) → (firstTile (cond north UpsRowsNorth UpsRowsSouth) ≡ first north) × (firstTile (cond north UpsRowsNorth UpsRowsSouth) + sizeOf (cond north UpsRowsNorth UpsRowsSouth) ≡ end north)
-unfolding firstTile
-rows-by true = (refl, refl)
-rows-by false = (refl, refl)
-
 module _ (band k : ℕ) (north : Bool) (column tile : ℕ) (place : placeOf (bandsOf (pos 0)) band ≡ At k) (fit : fits (pos 0) band k north column tile ≡ true)
-    (from : first north ≤ column) (to : column < end north) (low : first north ≤ tile) (high : tile < end north) where
+    (from : lowTile north ≤ column) (to : column < highTile north) (low : lowTile north ≤ tile) (high : tile < highTile north) where
   -- "hemisphere and side agree"
   sides : (north ≡ northBand band) × (leb 20 column ≡ eastBand band)
   unfolding fits upsFits
@@ -229,12 +151,12 @@ module _ (band k : ℕ) (north : Bool) (column tile : ℕ) (place : placeOf (ban
   column-in : TileOf (columnsOf (pos 0) band) column
   unfolding columnsOf gridOf bandsOf
   column-in =
-      let h = half band k place in
-      rw (h .ends, h .starts, ← sides .0) (in-half north (eastBand band) column (sides .1) from to)
+      let e = half-columns band k place in
+      rw (ap (λ (v : ℕ × ℕ). v .1) e, ap (λ (v : ℕ × ℕ). v .0) e, ← sides .0) (in-half north (eastBand band) column (sides .1) from to)
 
   row-in : TileOf (rowsOf (pos 0) north) tile
   unfolding rowsOf gridOf
-  row-in = rw (rows-by north .1, rows-by north .0) (record { least = low; lt = high })
+  row-in = rw (hemisphere-rows north .1, hemisphere-rows north .0) (record { least = low; lt = high })
 
   -- so the block answers the tiles
   ups-row : placeOf (rowsOf (pos 0) north) (rowLetter (pos 0) north tile) ≡ At (tile - firstTile (rowsOf (pos 0) north))

@@ -38,7 +38,8 @@ use Rattle.writer.specs.declared.Composed.the-variants.{Full, Bare as BareText}
 use Rattle.writer.specs.Text.{headText, blockText, fullText}
 use Rattle.writer.specs.Compose.{tileOf as tileAt, cutOf, partsAt, madeOf, composed}
 use Rattle.writer.specs.Write.{fitOf, leavesOf, answered, kept, writeOf, writeLeaves}
-use Rattle.writer.proofs.Room.{room, held, made}
+use Rattle.writer.proofs.Fit.{room, held}
+use Rattle.writer.proofs.Made.{made}
 use Rattle.laws.specs.Sound.{restOf}
 use Rattle.laws.specs.Trips.{inCapitals, canonical, Writes, Returns}
 use Rattle.laws.proofs.Inside.{kind, Inside}

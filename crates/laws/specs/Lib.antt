@@ -3,5 +3,7 @@ pub mod Centre
 pub mod Bare
 pub mod Held
 pub mod Trips
+pub mod Squares
+pub mod Shifts
 pub mod Tables
 pub mod Starred

@@ -1,16 +1,17 @@
--- Document 01, "References on each side of a rule": those of reading with *, in its order, with its metres. And every bare
--- zone of one UTM zone, 31V and the four of UPS, by its formulas. Assumes nothing.
+-- Document 01, "References on each side of a rule": those with *, in its order, with its metres: read, in canonical form,
+-- written. And every bare zone of one UTM zone, 31V and the four of UPS, by its formulas. Assumes nothing.
 use mathlib.Core.Bool.{true, false}
 use mathlib.Core.List.{List, [], _∷_}
 use Prim.Native.Char.{code}
 use Rattle.reader.specs.declared.Answer.the-variants.{Refused}
-use Rattle.laws.specs.Tables.{Example, square, bare, reads}
+use Rattle.laws.specs.Tables.{Example, square, bare, reads, writes, returns}
 
 abbrev pub starred : List Example
 starred =
     reads "18TWL856641113154" (square 18 true (code "T") 6 58566415 451131545)
     ∷ reads "YXL6143481146" (square 0 true (code "Y") 5 176143450 238114650)
     ∷ reads "4qfj" (square 4 true (code "Q") 0 65000000 235000000)
+    ∷ returns "4qfj" "04QFJ"
     ∷ reads "31V" (bare 31 true (code "V") 400000 6700000)
     ∷ reads "31WCL" (square 31 true (code "W") 0 35000000 705000000)
     ∷ reads "31WBL" (Refused 10)
@@ -18,6 +19,8 @@ starred =
     ∷ reads "31VDM" (Refused 10)
     ∷ reads "018T" (Refused 4)
     ∷ reads "18TWA" (Refused 10)
+    ∷ writes 18 true 5 900000 4500000 (code "T") "18TZL9999900000"
+    ∷ writes 18 false 5 500000 10000000 (code "M") "18MWE0000099999"
     ∷ []
 
 -- "northing in tiles floor((160k - 1511)/18), k = 0..19 for C..X, plus 100 in the south", a tile being 100,000 m.

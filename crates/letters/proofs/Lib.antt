@@ -1,4 +1,5 @@
 mod Sets
 pub mod Laws
+pub mod Places
 pub mod ZoneNumber
 pub mod Unique

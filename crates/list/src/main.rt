@@ -1,7 +1,7 @@
 // One answer for each line of standard input, lines of any length, in fixed memory.
 use libc::STDIN_FILENO;
 use libc::STDOUT_FILENO;
-use listing::Listed;
+use writer::Written;
 ghost use Prim.Native.Nat.{_<_, _≤_};
 ghost use lib.ListN.{length};
 
@@ -94,13 +94,13 @@ fn put_line(line: &[u8], out: &mut [u8], sheet: Sheet) -> Sheet
     let to = ready.used;
     let number = next(ready.number);
     match listing::list_line(line, number, &mut out[to..]) {
-        Listed::Length(n) => Sheet {
+        Written::Length(n) => Sheet {
             number,
             used: to + n,
             how,
         },
         // There is room, so this does not occur.
-        Listed::Refused(_) => Sheet {
+        Written::Refused(_) => Sheet {
             number,
             used: to,
             how,

@@ -1,5 +1,4 @@
--- A line's length is within the buffer that was lent, and 128 bytes hold every line. Assumes nothing.
-use mathlib.Core.Path.{_≡_, refl}
+-- 128 bytes hold every line. Assumes nothing.
 use mathlib.Core.Bool.{Bool, true, false, cond}
 use mathlib.Core.List.{List, [], _∷_, _++_}
 use Prim.Native.Nat.{ℕ, zero, suc, _+_, _/_, _%_, _≤_}
@@ -7,21 +6,11 @@ use native.Mathlib.Omega.{arith}
 use lib.ListN.{length, length-append}
 use lib.IntN.{ℤ, pos, negsuc}
 use lib.Dec.{ltb}
-use borrow.Author.Tests.{ltb-false}
 use Rattle.position.specs.declared.Position.{Position}
 use Rattle.reader.specs.declared.Answer.{Answer}
 use Rattle.reader.specs.declared.Answer.the-variants.{Square, Bare, Refused}
-use Rattle.listing.specs.declared.Listed.the-variants.{Length, Refused as NotListed}
 use Rattle.listing.specs.Numerals.{digit, numeral, signed}
-use Rattle.listing.specs.Listing.{zoneText, unitsText, refusalText, textOf, answerOf, lineOf, fitOf}
-
-pub fitted : (t : List ℕ) (m n : ℕ) → fitOf t m ≡ Length n → n ≤ m
-unfolding fitOf
-fitted t m n = by-test (ltb m (length t)) refl
-  where
-    by-test : (z : Bool) → ltb m (length t) ≡ z → cond z (NotListed 20) (Length (length t)) ≡ Length n → n ≤ m
-    by-test true e h = let z : _≡_ {A = ℕ} 0 1 = cc in omega arith
-    by-test false e h = let s : length t ≡ n = cc in omega (arith, ltb-false m (length t) e)
+use Rattle.listing.specs.Listing.{zoneText, unitsText, refusalText, textOf, answerOf, lineOf}
 
 -- a numeral of k digits at most is no longer
 numeral-le : (k n : ℕ) → length (numeral k n) ≤ k

@@ -4,7 +4,7 @@ use mathlib.Core.Bool.{true, false}
 use mathlib.Core.List.{List, [], _∷_, _++_, append-assoc}
 use Prim.Native.Nat.{ℕ, _+_, _-_, _^_, _≤_, _<_}
 use native.Mathlib.Omega.{arith}
-use borrow.Author.Tests.{lt-ltb, le-ltb, ltb-true}
+use borrow.Author.Tests.{ltb-true}
 use lib.IntN.{ℤ, pos, negsuc}
 use lib.ListN.{length, take, drop, length-drop}
 use lib.Seq.{take-all, take-length}
@@ -14,9 +14,11 @@ use mir.Val.{SFits}
 use Rattle.whole.specs.Floor.{fold}
 use Rattle.whole.proofs.Parts.{clash}
 use Rattle.position.specs.declared.Position.{Position}
-use Rattle.listing.specs.declared.Listed.the-variants.{Length, Refused}
+use Rattle.writer.specs.declared.Written.the-variants.{Length, Refused}
+use Rattle.writer.specs.Write.{fitOf, leavesOf}
+use Rattle.writer.proofs.Fit.{room, held, no-room, untouched}
 use Rattle.listing.specs.Numerals.{decimal, signed}
-use Rattle.listing.specs.Listing.{field, letter, sideOf, zoneText, unitsText, refusalText, fitOf, leavesOf}
+use Rattle.listing.specs.Listing.{field, letter, sideOf, zoneText, unitsText, refusalText}
 
 -- ---- signed numbers
 
@@ -59,17 +61,12 @@ module _ (t line out : List ℕ) (r : ℕ) (is : drop r line ≡ t) (all : lengt
   size = ap length (sym is) ∙ length-drop r line ∙ ap (λ (n : ℕ). n - r) all
 
   pub short : length out < 128 - r → (Refused 20 ≡ fitOf t (length out)) × (out ≡ leavesOf t out)
-  unfolding fitOf leavesOf
-  short h =
-      let s = size in
-      let k : length out < length t = omega arith in
-      (rw (lt-ltb _ _ k), rw (lt-ltb _ _ k))
+  short h = let s = size in (sym (no-room t (length out) (omega arith)), sym (untouched t out (omega arith)))
 
   pub fits : 128 - r ≤ length out → (src last : List ℕ) → src ≡ take (128 - r) (drop r line)
       → last ≡ take (length src) src ++ drop (length src) out → (Length (128 - r) ≡ fitOf t (length out)) × (last ≡ leavesOf t out)
-  unfolding fitOf leavesOf
   fits h src last e f =
       let s = size in
       let k : length t ≤ length out = omega arith in
       let u : src ≡ t = e ∙ take-all (128 - r) (drop r line) (omega (arith, length-drop r line)) ∙ is in
-      (rw (le-ltb _ _ k, s), rw (f, u, le-ltb _ _ k, take-length t))
+      (ap Length (sym s) ∙ sym (room t (length out) k), rw (f, u, take-length t) (sym (held t out k)))

@@ -4,13 +4,11 @@ use mathlib.Core.List.{List, [], _∷_, _++_}
 use Prim.Native.Nat.{ℕ}
 use Prim.Native.Char.{code}
 use lib.Dec.{ltb}
-use lib.ListN.{length, drop}
+use lib.ListN.{length}
 use Rattle.position.specs.declared.Position.{Position}
 use Rattle.reader.specs.declared.Answer.{Answer}
 use Rattle.reader.specs.declared.Answer.the-variants.{Square, Bare, Refused}
 use Rattle.reader.specs.Read.{readOf}
-use Rattle.listing.specs.declared.Listed.{Listed}
-use Rattle.listing.specs.declared.Listed.the-variants.{Length, Refused as NotListed}
 use Rattle.listing.specs.Numerals.{decimal, signed}
 
 -- "one space stands between fields": a space and a field.
@@ -52,11 +50,3 @@ answerOf s = cond (ltb 64 (length s)) (Refused 23) (readOf s)
 -- The line of a text, under its number.
 unfoldable pub lineOf : ℕ → List ℕ → List ℕ
 lineOf number s = textOf number (answerOf s)
-
--- "20 output too short": else the line's length, of a buffer of m bytes.
-unfoldable pub fitOf : List ℕ → ℕ → Listed
-fitOf t m = cond (ltb m (length t)) (NotListed 20) (Length (length t))
-
--- "bytes beyond it stay. A refusal alters no lent byte.": what the buffer then holds.
-unfoldable pub leavesOf : List ℕ → List ℕ → List ℕ
-leavesOf t l = cond (ltb (length l) (length t)) l (t ++ drop (length t) l)

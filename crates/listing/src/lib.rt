@@ -1,12 +1,14 @@
 // One line of the listing: a text as it was read, under its line number.
 use position::Position;
 use reader::Answer;
+use writer::Written;
 ghost use mathlib.Core.Path.{_≡_};
 ghost use mathlib.Core.List.{_∷_, _++_};
 ghost use Prim.Native.Nat.{_+_, _<_, _≤_};
 ghost use lib.ListN.{length, drop};
 ghost use Rattle.listing.specs.Numerals.{decimal, signed};
-ghost use Rattle.listing.specs.Listing.{sideOf, field, letter, answerOf, zoneText, unitsText, refusalText, textOf, lineOf, fitOf, leavesOf};
+ghost use Rattle.listing.specs.Listing.{sideOf, field, letter, answerOf, zoneText, unitsText, refusalText, textOf, lineOf};
+ghost use Rattle.writer.specs.Write.{fitOf, leavesOf};
 
 // A line is made from its end to its start, so that no number has to be counted before it is written; `at` is where its
 // text begins so far. 128 bytes hold the longest: five numbers of 20 bytes, two letters, six blanks and the line feed.
@@ -132,22 +134,16 @@ fn answer_of(text: &[u8]) -> Answer
     reader::read(text)
 }
 
-// The line's length in the buffer, or 20 where it does not fit.
-pub enum Listed {
-    Length(usize),
-    Refused(u64),
-}
-
-// Puts the line of a text, under its number, at the buffer's start.
-pub fn list_line(text: &[u8], number: u64, out: &mut [u8]) -> Listed
+// Puts the line of a text, under its number, at the buffer's start: its length, or 20 where it does not fit.
+pub fn list_line(text: &[u8], number: u64, out: &mut [u8]) -> Written
     ensures { λ r. ⌜ (r ≡ fitOf (lineOf number (now (text .entry))) (length (now (out .entry)))) × (now (out .exit) ≡ leavesOf (lineOf number (now (text .entry))) (now (out .entry))) ⌝ }
 {
     let mut line = [0u8; 128];
     let at = put_answer(&mut line, number, answer_of(text));
     let n = 128 - at;
     if out.len() < n {
-        return Listed::Refused(20);
+        return Written::Refused(20);
     }
     bytes::copy(&line[at..], out);
-    Listed::Length(n)
+    Written::Length(n)
 }

@@ -9,7 +9,6 @@ use lib.IntN.{ℤ, pos, negsuc, _+ℤ_, _-ℤ_}
 use lib.Signed.{ltZ, _≤ℤ_}
 use Rattle.whole.proofs.Parts.{up, dn, clash, eq-by, add-parts, ≤ℤ-parts}
 use Rattle.whole.proofs.Small.{Small, computed, count, sum, difference, quotient}
-use Rattle.position.specs.Ranges.{tiles}
 use Rattle.reader.specs.Bare.{bareTile}
 use Rattle.reader.specs.Block.{tileOf}
 

@@ -38,7 +38,9 @@ use Rattle.reader.specs.Block.{tileOf, tilesOf, onRow, utmBlock, blockOf
 use Rattle.reader.specs.Digits.{digitsOf}
 use Rattle.reader.specs.Read.{squareOf, readOf}
 use Rattle.reader.proofs.Bounds.{bare-small, southern-small, south-tile, north-tile}
-use Rattle.reader.proofs.Stages.{past, place-lt, began, Placed, placed, squared, bared}
+use Rattle.whole.proofs.Choice.{past}
+use Rattle.letters.proofs.Places.{place-lt}
+use Rattle.reader.proofs.Stages.{began, Placed, placed, squared, bared}
 
 -- ---- the digits
 

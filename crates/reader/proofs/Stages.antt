@@ -1,6 +1,6 @@
 -- What stands behind an answer of reading: the stages that it went through and what each of them found. Assumes nothing.
 use mathlib.Core.Path.{_≡_, refl, sym, ap, _∙_}
-use mathlib.Core.Bool.{Bool, true, false, cond, not}
+use mathlib.Core.Bool.{Bool, true, false, cond}
 use mathlib.Core.List.{List}
 use Prim.Native.Nat.{ℕ, _+_, _-_, _<_, _≤_}
 use native.Mathlib.Omega.{arith}
@@ -10,12 +10,12 @@ use lib.IntN.{ℤ, pos}
 use lib.Signed.{ltZ}
 use lib.ListN.{length, take, drop, length-drop}
 use lib.Seq.{take-all}
+use Rattle.whole.proofs.Choice.{past}
 use Rattle.whole.proofs.Parts.{clash}
-use Rattle.letters.specs.declared.Place.{Place}
-use Rattle.letters.specs.declared.Place.the-variants.{At, NotInSet}
+use Rattle.letters.specs.declared.Place.the-variants.{At}
 use Rattle.letters.specs.Letters.{placeOf, byPlace, firstTile}
 use Rattle.letters.specs.Sets.{bandsOf, columnsOf, rowsOf, northBand}
-use Rattle.letters.proofs.Laws.{place-below, size-le}
+use Rattle.letters.proofs.Places.{in-set}
 use Rattle.position.specs.declared.Position.{Position}
 use Rattle.runs.specs.Runs.{hasHigh, leadOf}
 use Rattle.reader.specs.declared.Head.{Head}
@@ -35,28 +35,9 @@ use Rattle.reader.specs.Block.{tilesOf, utmBlock, blockOf}
 use Rattle.reader.specs.Digits.{digitsOf}
 use Rattle.reader.specs.Read.{partsOf, squareOf, begun, blocked, halved, fullOf, tailOf, readOf}
 
--- a test whose answer is another one was not passed
-pub past : {A : Type 0} (t : Bool) (x rest y : A) → (x ≡ y → ⊥) → cond t x rest ≡ y → (t ≡ false) × (rest ≡ y)
-past true x rest y n e = absurd (n e)
-past false x rest y n e = (refl, e)
-
--- a letter that was needed has a place
-pub record At-place {A : Type 0} (place : Place) (at : ℕ → A) (y : A) : Type 0 where
-  pub k : ℕ
-  pub is : place ≡ At k
-  pub then : at k ≡ y
-
-pub in-set : {A : Type 0} (place : Place) (x : A) (at : ℕ → A) (y : A) → (x ≡ y → ⊥) → byPlace place x at ≡ y → At-place place at y
-in-set NotInSet x at y n e = absurd (n e)
-in-set (At k) x at y n e = record { k = k; is = refl; then = e }
-
 -- a part of a slice that goes to its end
 pub rest : (s : List ℕ) (n : ℕ) → take (length s - n) (drop n s) ≡ drop n s
 rest s n = take-all (length s - n) (drop n s) (omega (arith, length-drop n s))
-
--- every place is below 24
-pub place-lt : (set : _) (b k : ℕ) → placeOf set b ≡ At k → k < 24
-place-lt set b k e = omega (arith, place-below set b k e, size-le set)
 
 -- ---- up to the band
 

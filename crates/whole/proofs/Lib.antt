@@ -1,7 +1,9 @@
+pub mod Choice
 pub mod Parts
 pub mod Floor
 pub mod Powers
 pub mod Signed
+pub mod Ranges
 pub mod Small
 pub mod Table
 pub mod Unique

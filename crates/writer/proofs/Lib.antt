@@ -1,5 +1,6 @@
 mod Sides
+pub mod Fit
 pub mod Stores
 pub mod Stages
-pub mod Room
+pub mod Made
 pub mod Unique

@@ -8,11 +8,13 @@ use lib.IntN.{ℤ, pos, negsuc}
 use lib.Signed.{ltZ}
 use Rattle.whole.specs.Compare.{outside}
 use Rattle.whole.specs.Floor.{fold}
+use Rattle.whole.proofs.Choice.{past}
 use Rattle.whole.proofs.Parts.{clash}
-use Rattle.letters.specs.declared.Place.{Place}
-use Rattle.letters.specs.declared.Place.the-variants.{At, NotInSet}
-use Rattle.letters.specs.Letters.{placeOf, byPlace}
+use Rattle.whole.proofs.Ranges.{not-outside}
+use Rattle.letters.specs.declared.Place.the-variants.{At}
+use Rattle.letters.specs.Letters.{placeOf}
 use Rattle.letters.specs.Sets.{bandsOf}
+use Rattle.letters.proofs.Places.{in-set}
 use Rattle.position.specs.declared.Parts.{Parts}
 use Rattle.position.specs.declared.Point.{Point}
 use Rattle.position.specs.declared.MgrsCheck.{MgrsCheck}
@@ -23,21 +25,11 @@ use Rattle.writer.specs.declared.Composed.{Composed}
 use Rattle.writer.specs.declared.Composed.the-variants.{Full, Bare, Refused}
 use Rattle.writer.specs.Compose.{tileOf, fits, partsAt, madeOf, composedAt, reached, composed}
 
--- a test whose answer is another one was not passed
-past : {A : Type 0} (t : Bool) (x rest y : A) → (x ≡ y → ⊥) → cond t x rest ≡ y → (t ≡ false) × (rest ≡ y)
-past true x rest y n e = absurd (n e)
-past false x rest y n e = (refl, e)
-
--- the outcome of the edge rules and of the band, where a refusal is not the answer
+-- the outcome of the edge rules, where a refusal is not the answer
 record Reached (c : MgrsCheck) (at : Point → Composed) (y : Composed) : Type 0 where
   pub point : Point
   pub is : c ≡ Moved point
   pub then : at point ≡ y
-
-record At-place (place : Place) (at : ℕ → Composed) (y : Composed) : Type 0 where
-  pub k : ℕ
-  pub is : place ≡ At k
-  pub then : at k ≡ y
 
 -- every test passed, of zone, hemisphere, band, p, easting and northing
 pub record Checked (zone : ℤ) (north : Bool) (band : ℕ) (p e n : ℤ) : Type 0 where
@@ -59,14 +51,10 @@ pub record Passed (zone : ℤ) (north : Bool) (band : ℕ) (p e n : ℤ) (y : Co
   pub then : madeAt checked ≡ y
 
 module _ (y : Composed) (taken : (n : ℕ) → Refused n ≡ y → ⊥) where
-  -- the edge rules moved the point, the band has its place
+  -- the edge rules moved the point
   reached-by : (c : MgrsCheck) (at : Point → Composed) → reached c at ≡ y → Reached c at y
   reached-by (OutOfRange n) at e = absurd (taken n e)
   reached-by (Moved point) at e = record { point = point; is = refl; then = e }
-
-  in-set : (place : Place) (n : ℕ) (at : ℕ → Composed) → byPlace place (Refused n) at ≡ y → At-place place at y
-  in-set NotInSet n at e = absurd (taken n e)
-  in-set (At k) n at e = record { k = k; is = refl; then = e }
 
   -- an answer that is no refusal passed every test
   pub passed : (zone : ℤ) (north : Bool) (band : ℕ) (p e n : ℤ) → composed zone north band p e n ≡ y → Passed zone north band p e n y
@@ -78,7 +66,7 @@ module _ (y : Composed) (taken : (n : ℕ) → Refused n ≡ y → ⊥) where
       let u = fold (c .point .easting) in
       let v = fold (c .point .northing) in
       let made = madeOf zone band (c .point .north) p u v in
-      let d = in-set (placeOf (bandsOf zone) band) 18 (λ k. cond (not (fits zone band k (c .point .north) (tileOf u) (tileOf v))) (Refused 19) made) (c .then) in
+      let d = in-set (placeOf (bandsOf zone) band) (Refused 18) (λ k. cond (not (fits zone band k (c .point .north) (tileOf u) (tileOf v))) (Refused 19) made) y (taken 18) (c .then) in
       let f = past (not (fits zone band (d .k) (c .point .north) (tileOf u) (tileOf v))) _ _ _ (taken 19) (d .then) in
       record {
         checked = record { zone-in = a .0; p-in = b .0; point = c .point; is-point = c .is; k = d .k; is-band = d .is; fit = not-false _ (f .0) };
@@ -127,16 +115,7 @@ module _ (zone : ℤ) (north : Bool) (band : ℕ) (p e n : ℤ) where
 
 -- ---- p is at most 11
 
--- within a range: not below it and not above it
-both-no : (below above : Bool) → cond below true above ≡ false → (below ≡ false) × (above ≡ false)
-both-no true above e = clash (cc)
-both-no false above e = (refl, e)
-
-pub not-outside : (low high z : ℤ) → outside low high z ≡ false → (ltZ z low ≡ false) × (ltZ high z ≡ false)
-unfolding outside
-not-outside low high z e = both-no (ltZ z low) (ltZ high z) e
-
--- p in its range, of a reference too
+-- of p in its range
 few-at : (p : ℤ) → outside (negsuc 0) (pos 11) p ≡ false → fold p ≤ 11
 few-at (pos n) e = ltb-false 11 n (not-outside (negsuc 0) (pos 11) (pos n) e .1)
 few-at (negsuc n) e = let h = ltb-false 0 n (not-outside (negsuc 0) (pos 11) (negsuc n) e .0) in omega arith

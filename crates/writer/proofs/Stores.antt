@@ -5,7 +5,6 @@ use mathlib.Core.List.{List, [], _∷_, _++_}
 use Prim.Native.Nat.{ℕ, zero, suc, _+_, _-_, _/_, _%_, _≤_, _<_}
 use native.Mathlib.Nat.{add-zero, zero-add}
 use native.Mathlib.Omega.{arith}
-use borrow.Author.Tests.{lt-ltb, le-ltb}
 use lib.IntN.{ℤ, pos}
 use lib.ListN.{length, set, length-append}
 use lib.Seq.{sets, sets-eq, set-comm}
@@ -17,6 +16,7 @@ use Rattle.position.specs.declared.Parts.{Parts}
 use Rattle.writer.specs.declared.Written.the-variants.{Length, Refused}
 use Rattle.writer.specs.Text.{headText, headLength, blockText, fullText}
 use Rattle.writer.specs.Write.{fitOf, leavesOf}
+use Rattle.writer.proofs.Fit.{room, held, no-room, untouched}
 
 -- a run of stores whose last is done first
 sets-last : (ds l : List ℕ) (i b : ℕ) → sets l i (ds ++ (b ∷ [])) ≡ sets (set l (i + length ds) b) i ds
@@ -109,13 +109,10 @@ full-stored parts l a b n e ha hb =
 module _ (t l : List ℕ) (n : ℕ) (e : n ≡ length t) where
   -- too short a buffer
   pub short : length l < n → (Refused 20 ≡ fitOf t (length l)) × (l ≡ leavesOf t l)
-  unfolding fitOf leavesOf
-  short h = let k : length l < length t = omega arith in (rw (lt-ltb _ _ k), rw (lt-ltb _ _ k))
+  short h = (sym (no-room t (length l) (omega arith)), sym (untouched t l (omega arith)))
 
   -- a buffer with room
-  pub room : n ≤ length l → (last : List ℕ) → last ≡ sets l 0 t → (Length n ≡ fitOf t (length l)) × (last ≡ leavesOf t l)
-  unfolding fitOf leavesOf
-  room h last s =
-      let k : length t ≤ length l = omega arith in
+  pub long : n ≤ length l → (last : List ℕ) → last ≡ sets l 0 t → (Length n ≡ fitOf t (length l)) × (last ≡ leavesOf t l)
+  long h last s =
       let z : 0 + length t ≤ length l = omega arith in
-      (rw (le-ltb _ _ k, e), rw (le-ltb _ _ k) (s ∙ rw zero-add at (sets-eq t l 0 z)))
+      (rw e (sym (room t (length l) (omega arith))), s ∙ rw zero-add at (sets-eq t l 0 z) ∙ sym (held t l (omega arith)))

@@ -4,7 +4,7 @@ use mathlib.Core.Path.{sym, _∙_}
 use native.Mathlib.Omega.{arith}
 use lib.ListN.{length-take, length-drop}
 use borrow.Author.Needs.{needs}
-use Rattle.listing.proofs.Fit.{fitted}
+use Rattle.writer.proofs.Fit.{fitted}
 use Rattle.list.proofs.put_line.Statement.{statement}
 use Rattle.list.proofs.put_line.Tie as tie
 

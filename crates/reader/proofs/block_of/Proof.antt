@@ -7,7 +7,7 @@ use Rattle.letters.specs.declared.Place.the-variants.{At}
 use Rattle.letters.specs.Letters.{placeOf}
 use Rattle.letters.specs.Sets.{columnsOf, rowsOf, northBand}
 use Rattle.reader.specs.Block.{blockOf}
-use Rattle.reader.proofs.Stages.{place-lt}
+use Rattle.letters.proofs.Places.{place-lt}
 use Rattle.reader.proofs.block_of.Statement.{statement}
 use Rattle.reader.proofs.block_of.Tie as tie
 

@@ -10,7 +10,8 @@ use mir.Facts.{toZ-ofZ}
 use Rattle.reader.specs.declared.HeadAnswer.the-variants.{Start}
 use Rattle.reader.specs.Head.{headOf}
 use Rattle.reader.specs.Read.{readOf}
-use Rattle.reader.proofs.Stages.{began, place-lt, rest}
+use Rattle.letters.proofs.Places.{place-lt}
+use Rattle.reader.proofs.Stages.{began, rest}
 use Rattle.reader.proofs.read.Statement.{statement}
 use Rattle.reader.proofs.read.Tie as tie
 

@@ -7,11 +7,11 @@ use mir.Syntax.{w64}
 use mir.Facts.{toZ-ofZ}
 use Rattle.whole.specs.Compare.{outside}
 use Rattle.whole.specs.Floor.{fold}
+use Rattle.whole.proofs.Ranges.{in-range}
 use Rattle.position.specs.declared.MgrsCheck.the-variants.{Moved}
 use Rattle.position.specs.Edges.{mgrsCheck}
 use Rattle.position.proofs.Reach.{east-least}
 use Rattle.writer.specs.Compose.{composed}
-use Rattle.writer.proofs.Sides.{in-range}
 use borrow.Author.Needs.{needs}
 use Rattle.writer.proofs.compose.Statement.{statement}
 use Rattle.writer.proofs.compose.Tie as tie

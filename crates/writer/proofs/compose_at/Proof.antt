@@ -6,7 +6,7 @@ use mir.Facts.{toZ-ofZ}
 use Rattle.letters.specs.declared.Place.the-variants.{At}
 use Rattle.letters.specs.Letters.{placeOf}
 use Rattle.letters.specs.Sets.{bandsOf}
-use Rattle.letters.proofs.Laws.{place-below, size-le}
+use Rattle.letters.proofs.Places.{place-lt}
 use Rattle.writer.specs.Compose.{composedAt}
 use borrow.Author.Needs.{needs}
 use Rattle.writer.proofs.compose_at.Statement.{statement}
@@ -39,9 +39,7 @@ is-fitting-requires c κs =
     let s = c .before .before .before .before .before in
     let h = s .pre .0 in
     let n = s .fits .n .fits in
-    let a = place-below _ _ _ (band-at c) in
-    let b = size-le (bandsOf (s .args .zone)) in
-    (omega arith, omega arith, omega arith)
+    (place-lt _ _ _ (band-at c), omega arith, omega arith)
 
 returns-2 : tie.Need-returns-2
 unfolding composedAt

@@ -4,7 +4,7 @@ use mathlib.Core.Path.{_≡_, sym, _∙_}
 use lib.ListN.{length}
 use mir.Facts.{toZ-ofZ}
 use Rattle.writer.specs.Text.{headText}
-use Rattle.writer.proofs.Stores.{head-length, short, room}
+use Rattle.writer.proofs.Stores.{head-length, short, long}
 use borrow.Author.Needs.{needs}
 use Rattle.writer.proofs.put_bare.Statement.{statement}
 use Rattle.writer.proofs.put_bare.Tie as tie
@@ -35,7 +35,7 @@ returns-2 c =
     let t = p .before .before in
     let h = t .before in
     let s = h .before .before in
-    room (headText (s .args .zone) (s .args .band)) (s .args .out .now) _ (size h) (t .if1 .left) _ (rw (toZ-ofZ (s .fits .zone)) at (p .put-head .ensures))
+    long (headText (s .args .zone) (s .args .band)) (s .args .out .now) _ (size h) (t .if1 .left) _ (rw (toZ-ofZ (s .fits .zone)) at (p .put-head .ensures))
 
 pub put-bare-spec : {M : Type 1} → statement M
 put-bare-spec =

@@ -9,7 +9,7 @@ use mir.Val.{toZ, ofZ}
 use mir.Facts.{toZ-ofZ}
 use Rattle.whole.specs.Floor.{fold}
 use Rattle.writer.specs.Text.{headLength, fullText}
-use Rattle.writer.proofs.Stores.{length-le, full-length, full-stored, short, room}
+use Rattle.writer.proofs.Stores.{length-le, full-length, full-stored, short, long}
 use borrow.Author.Needs.{needs}
 use Rattle.writer.proofs.put_full.Statement.{statement}
 use Rattle.writer.proofs.put_full.Tie as tie
@@ -82,7 +82,7 @@ returns-2 c =
     let s = f .before .before .before .before .before in
     let e = rw (zone-back (f .before .before .before)) at (h .put-head .ensures) in
     let made = full-stored (s .args .parts) (s .args .out .now) _ _ _ (head-is (f .before .before)) e (b .put-block .ensures) in
-    room (fullText (s .args .parts)) (s .args .out .now) _ (size f) (t .if1 .left) _ made
+    long (fullText (s .args .parts)) (s .args .out .now) _ (size f) (t .if1 .left) _ made
 
 pub put-full-spec : {M : Type 1} → statement M
 put-full-spec =
