@@ -108,7 +108,7 @@ module _ (z band k column row n x y : ℕ) (t : Tiles) (most : z ≤ 60) (place 
       )
 
   -- so the whole is read as the square of the parts in the tiles
-  parts-read : readOf (fullText parts) ≡ Square (squareOf parts t)
+  pub parts-read : readOf (fullText parts) ≡ Square (squareOf parts t)
   unfolding readOf fullText
   parts-read =
       let s = starts z band k (blockText parts) most place low-block in
@@ -189,7 +189,7 @@ module _ (north : Bool) (band : ℕ) (e n : ℤ) (point : Point) (k : ℕ) where
 -- ---- what is composed
 
 -- a zone that passed is at most 60
-zone-most : (z : ℕ) → outside (pos 0) (pos 60) (pos z) ≡ false → z ≤ 60
+pub zone-most : (z : ℕ) → outside (pos 0) (pos 60) (pos z) ≡ false → z ≤ 60
 zone-most z e = ltb-false 60 z (not-outside (pos 0) (pos 60) (pos z) e .1)
 
 -- a composed text is read as the square around its point
@@ -208,7 +208,7 @@ full-at (pos z) north band (pos j) e n c t =
     ∙ rw (r .side)
 
 -- a composed zone and band are read as the bare zone
-bare-at : (zone : ℤ) (band k : ℕ) → outside (pos 0) (pos 60) zone ≡ false → placeOf (bandsOf zone) band ≡ At k → readOf (headText zone band) ≡ Bare (bareOf zone band k)
+pub bare-at : (zone : ℤ) (band k : ℕ) → outside (pos 0) (pos 60) zone ≡ false → placeOf (bandsOf zone) band ≡ At k → readOf (headText zone band) ≡ Bare (bareOf zone band k)
 unfolding readOf tailOf hasHigh
 bare-at (negsuc z) band k h place = let f = not-outside (pos 0) (pos 60) (negsuc z) h .0 in clash (cc)
 bare-at (pos z) band k h place =

@@ -5,10 +5,13 @@ pub mod Held
 pub mod Inside
 pub mod Blocks
 pub mod BarePoints
+pub mod Corners
 pub mod Returns
+pub mod Shorts
 pub mod Heads
 pub mod PointLetters
 pub mod Back
+pub mod Covering
 pub mod Length
 pub mod Shifts
 pub mod Starred

@@ -3,10 +3,11 @@ use mathlib.Core.Path.{_≡_, refl, sym, ap, _∙_}
 use mathlib.Core.Bool.{Bool, true, false, _&&_}
 use mathlib.Core.List.{List, [], _∷_, _++_}
 use Prim.Native.Nat.{ℕ, zero, suc, _+_, _-_, _*_, _/_, _%_, _^_, _≤_, _<_}
-use native.Mathlib.Nat.{pow-succ'}
+use native.Mathlib.Nat.{add-suc, add-zero, div-div-eq-div-mul, div-one, pow-succ'}
 use native.Mathlib.Omega.{arith}
 use borrow.Author.Tests.{lt-leb, le-leb, le-ltb}
-use lib.ListN.{length, length-append}
+use lib.ListN.{length, take, length-append}
+use lib.Seq.{take-all, take-append-le}
 use Rattle.runs.specs.Runs.{hasHigh, isDigit, allDigits, valueFrom, valueOf, leadingDigits, lastDigits}
 use Rattle.runs.proofs.Laws.{and-left, and-right, digit-range, all-head, all-tail}
 
@@ -102,3 +103,21 @@ pub leading : (ds : List ℕ) (b : ℕ) (rest : List ℕ) → allDigits ds ≡ t
 unfolding leadingDigits
 leading [] b rest t n = rw n
 leading (d ∷ ds) b rest t n = rw (all-head d ds t, leading ds b rest (all-tail d ds t) n)
+
+-- ---- the first of them
+
+-- the first q of q + j digits are the digits of the number without its last j
+front-digits : (q j x : ℕ) → take q (lastDigits (q + j) x) ≡ lastDigits q (x / 10 ^ j)
+unfolding lastDigits
+front-digits q zero x =
+    let h : length (lastDigits q x) ≤ q = omega (arith, digits-length q x) in
+    rw (add-zero q, take-all q (lastDigits q x) h, div-one x)
+front-digits q (suc j) x =
+    let h : q ≤ length (lastDigits (q + j) (x / 10)) = omega (arith, digits-length (q + j) (x / 10)) in
+    rw (add-suc q j, take-append-le q (lastDigits (q + j) (x / 10)) _ h, front-digits q j (x / 10), div-div-eq-div-mul x 10 (10 ^ j), pow-succ' 10 j)
+
+-- so the first q of n digits are those of their number without its last n - q
+pub first-digits : (n q : ℕ) (ds : List ℕ) → q ≤ n → length ds ≡ n → allDigits ds ≡ true → lastDigits q (valueOf ds / 10 ^ (n - q)) ≡ take q ds
+first-digits n q ds h l t =
+    let e : q + (n - q) ≡ n = omega arith in
+    sym (front-digits q (n - q) (valueOf ds)) ∙ ap (λ (m : ℕ). take q (lastDigits m (valueOf ds))) e ∙ ap (take q) (value-digits n ds l t)

@@ -4,7 +4,9 @@ use reader::Answer;
 use writer::Written;
 ghost use mathlib.Core.Path.{_≡_};
 ghost use mathlib.Core.Bool.{true, _&&_};
+ghost use lib.Dec.{eqb};
 ghost use lib.ListN.{length};
+ghost use Rattle.whole.specs.Compare.{same};
 ghost use Rattle.position.specs.Metres.{exact};
 ghost use Rattle.reader.specs.declared.Answer.the-variants.{Square};
 ghost use Rattle.squares.specs.Shorten.{shortened, shortLeft, shortOf, shortLeaves};
@@ -51,13 +53,19 @@ pub enum Covering {
     Refused(u64),
 }
 
+fn is_same(zone: i64, band: u8, other: i64, letter: u8) -> bool
+    ensures { λ r. ⌜ r ≡ (same zone other && eqb band letter) ⌝ }
+{
+    if zone == other {
+        return band == letter;
+    }
+    false
+}
+
 fn is_same_area(a: Position, b: Position) -> bool
     ensures { λ r. ⌜ r ≡ sameArea a b ⌝ }
 {
-    if a.zone == b.zone {
-        return a.band == b.band;
-    }
-    false
+    is_same(a.zone, a.band, b.zone, b.band)
 }
 
 // On one axis; every centre that is read is far from the ends of 64 bits.

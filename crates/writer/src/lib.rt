@@ -228,12 +228,12 @@ pub enum Written {
 fn put_bare(zone: i64, band: u8, out: &mut [u8]) -> Written
     ensures { λ r. ⌜ (r ≡ fitOf (headText zone band) (length (now (out .entry)))) × (now (out .exit) ≡ leavesOf (headText zone band) (now (out .entry))) ⌝ }
 {
-    let n = head_length(zone);
-    if out.len() < n {
+    let size = head_length(zone);
+    if out.len() < size {
         return Written::Refused(20);
     }
     put_head(out, zone, band);
-    Written::Length(n)
+    Written::Length(size)
 }
 
 // The letters and digits of a reference after its band.
@@ -254,12 +254,12 @@ fn put_full(parts: Parts, out: &mut [u8]) -> Written
     let head = head_length(parts.zone);
     let p = whole::fold_of(parts.p) as usize;
     let n = head + 2 + p + p;
-    if out.len() < n {
-        return Written::Refused(20);
+    if n <= out.len() {
+        put_head(out, parts.zone, parts.band);
+        put_block(out, head, p, parts);
+        return Written::Length(n);
     }
-    put_head(out, parts.zone, parts.band);
-    put_block(out, head, p, parts);
-    Written::Length(n)
+    Written::Refused(20)
 }
 
 // Writes a point's reference at the buffer's front.

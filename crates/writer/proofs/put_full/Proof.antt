@@ -52,12 +52,6 @@ add-n-2 c = record { fits = let h = head-le (c .before .before) in let k = few c
 add-n-3 : tie.Need-add-n-3
 add-n-3 c = record { fits = let h = head-le (c .before .before) in let k = few c in omega arith }
 
-returns : tie.Need-returns
-returns c =
-    let f = c .before in
-    let s = f .before .before .before .before .before in
-    short (fullText (s .args .parts)) (s .args .out .now) _ (size f) (c .if1 .taken)
-
 put-head-requires : tie.Need-put-head-requires
 put-head-requires c κs = search needs
 
@@ -66,15 +60,15 @@ put-block-requires c κs =
     let h = c .before .before .before in
     let t = h .before .before .before in
     let f = t .before in
-    let k = t .if1 .left in
+    let k = t .if1 .taken in
     let l = h .put-head .kept .0 in
     (p-is f, few f, omega arith)
 
 same-length : tie.Need-same-length
 same-length c = search needs
 
-returns-2 : tie.Need-returns-2
-returns-2 c =
+returns : tie.Need-returns
+returns c =
     let b = c .before .before in
     let h = b .before .before .before .before in
     let t = h .before .before .before in
@@ -82,7 +76,13 @@ returns-2 c =
     let s = f .before .before .before .before .before in
     let e = rw (zone-back (f .before .before .before)) at (h .put-head .ensures) in
     let made = full-stored (s .args .parts) (s .args .out .now) _ _ _ (head-is (f .before .before)) e (b .put-block .ensures) in
-    long (fullText (s .args .parts)) (s .args .out .now) _ (size f) (t .if1 .left) _ made
+    long (fullText (s .args .parts)) (s .args .out .now) _ (size f) (t .if1 .taken) _ made
+
+returns-2 : tie.Need-returns-2
+returns-2 c =
+    let f = c .before in
+    let s = f .before .before .before .before .before in
+    short (fullText (s .args .parts)) (s .args .out .now) _ (size f) (c .if1 .left)
 
 pub put-full-spec : {M : Type 1} → statement M
 put-full-spec =
@@ -93,8 +93,8 @@ put-full-spec =
     add-n
     add-n-2
     add-n-3
-    returns
     put-head-requires
     put-block-requires
     same-length
+    returns
     returns-2)
