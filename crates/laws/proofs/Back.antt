@@ -1,12 +1,12 @@
 -- Whatever the writer composes reads back: to its zone, band and digit count, and to the square that holds the point after
 -- the edge rules. Assumes nothing.
-use mathlib.Core.Path.{_≡_, refl, sym, ap, _∙_}
+use mathlib.Core.Path.{_≡_, refl, sym, ap, _∙_, subst}
 use mathlib.Core.Bool.{Bool, true, false}
 use mathlib.Core.List.{List, [], _++_, append-nil}
 use Prim.Native.Nat.{ℕ, zero, suc, _+_, _*_, _/_, _%_, _^_, _≤_, _<_}
 use native.Mathlib.Nat.{mul-assoc, div-add-mod', add-mul-div-right, div-lt-iff-lt-mul}
 use native.Mathlib.Omega.{arith}
-use borrow.Author.Tests.{ltb-false, le-ltb, eq-eqb, ne-eqb}
+use borrow.Author.Tests.{ltb-true, ltb-false, le-ltb, eq-eqb, ne-eqb}
 use lib.IntN.{ℤ, pos, negsuc}
 use lib.Signed.{ltZ}
 use lib.ListN.{length, take, drop, length-append}
@@ -30,22 +30,23 @@ use Rattle.position.proofs.Reach.{Counted, Within, UpsReach, utm-reach, ups-rea
 use Rattle.reader.specs.declared.Tiles.{Tiles}
 use Rattle.reader.specs.declared.BlockAnswer.the-variants.{Block}
 use Rattle.reader.specs.declared.DigitsAnswer.the-variants.{Halves}
+use Rattle.reader.specs.declared.Answer.{Answer}
 use Rattle.reader.specs.declared.Answer.the-variants.{Square, Bare}
 use Rattle.reader.specs.Bare.{bareOf}
 use Rattle.reader.specs.Block.{blockOf}
 use Rattle.reader.specs.Digits.{digitsOf}
 use Rattle.reader.specs.Read.{squareOf, fullOf, tailOf, readOf}
 use Rattle.reader.proofs.Stages.{placed}
-use Rattle.writer.specs.declared.BareZone.{BareZone}
-use Rattle.writer.specs.declared.Composed.{Composed}
-use Rattle.writer.specs.declared.Composed.the-variants.{Full, Bare as BareText, Refused as NotComposed}
+use Rattle.composer.specs.declared.BareZone.{BareZone}
+use Rattle.composer.specs.declared.Composed.{Composed}
+use Rattle.composer.specs.declared.Composed.the-variants.{Full, Bare as BareText, Refused as NotComposed}
 use Rattle.writer.specs.declared.Written.the-variants.{Length}
 use Rattle.writer.specs.Text.{headText, blockText, fullText}
-use Rattle.writer.specs.Compose.{tileOf, cutOf, fits, letterOfTile, rowLetter, partsAt, composed}
+use Rattle.composer.specs.Compose.{tileOf, cutOf, fits, letterOfTile, rowLetter, partsAt, composed}
 use Rattle.writer.specs.Write.{fitOf, leavesOf, answered, kept, writeOf, writeLeaves}
 use Rattle.writer.proofs.Fit.{held, fitted}
-use Rattle.writer.proofs.Stages.{Checked, full, bare}
-use Rattle.laws.specs.Trips.{around, squareAt, backOf, SquareBack, BareBack}
+use Rattle.composer.proofs.Stages.{Checked, full, bare}
+use Rattle.laws.specs.Trips.{around, squareAt, backOf, SquareBack, BareBack, ReadsBack}
 use Rattle.laws.proofs.Heads.{capital-is, not-high, starts}
 use Rattle.laws.proofs.Inside.{lowTile, highTile}
 use Rattle.laws.proofs.PointLetters.{Reads, utm-grid, utm-reads, ups-reads}
@@ -296,3 +297,39 @@ module _ (zone : ℤ) (north : Bool) (band : ℕ) (p e n : ℤ) where
         band-is = refl;
         p-is = refl;
       }
+
+-- below 0 there is only -1
+bare-p : (p : ℤ) → outside (negsuc 0) (pos 11) p ≡ false → ltZ p (pos 0) ≡ true → p ≡ negsuc 0
+bare-p (pos n) h t = absurd (omega (arith, ltb-true n 0 t))
+bare-p (negsuc n) h t = let k = ltb-false 0 n (not-outside (negsuc 0) (pos 11) (negsuc n) h .0) in ap negsuc (omega arith)
+
+module _ (zone : ℤ) (north : Bool) (band : ℕ) (p e n : ℤ) where
+  -- by what is composed, of the answer of reading
+  all-by : (c : Composed) (m k : ℕ) → composed zone north band p e n ≡ c → answered c m ≡ Length k → ReadsBack zone north band p e n (backOf zone north band p e n)
+  all-by (Full parts) m k x a =
+      let f = full zone north band p e n parts x in
+      let no = f .digits in
+      record {
+        point = f .checked .point;
+        is-point = f .checked .is-point;
+        square = λ t. square-back zone north band p e n parts x (f .checked .point) (f .checked .is-point);
+        bare = λ t. let z : true ≡ false = sym t ∙ no in clash (cc);
+      }
+  all-by (BareText z) m k x a =
+      let f = bare zone north band p e n z x in
+      let no = f .no-digits in
+      record {
+        point = f .checked .point;
+        is-point = f .checked .is-point;
+        square = λ t. let y : true ≡ false = sym no ∙ t in clash (cc);
+        bare = λ t. (bare-p p (f .checked .p-in) t, bare-back zone north band p e n z x);
+      }
+  all-by (NotComposed j) m k x a = clash (cc)
+
+  -- whatever is written, in whatever buffer, reads back
+  pub written-back : (l : List ℕ) (m : ℕ) → writeOf zone north band p e n (length l) ≡ Length m
+      → ReadsBack zone north band p e n (readOf (take m (writeLeaves zone north band p e n l)))
+  unfolding writeOf
+  written-back l m a =
+      subst (λ (y : Answer). ReadsBack zone north band p e n y) (sym (reads-back zone north band p e n l m a))
+      (all-by (composed zone north band p e n) (length l) m refl a)

@@ -24,7 +24,7 @@ use Rattle.position.specs.Ranges.{tiles}
 use Rattle.reader.specs.Bare.{metres, bareEasting, bareTile, bareNorthing}
 use Rattle.reader.specs.Block.{tileOf}
 use Rattle.reader.proofs.Bounds.{south-tile}
-use Rattle.writer.specs.Compose.{tileOf as tileAt}
+use Rattle.composer.specs.Compose.{tileOf as tileAt}
 use Rattle.laws.proofs.Inside.{Kind, kind, Inside, row-side, utm-inside, Polar, ups-inside}
 
 -- a coordinate that is not negative, and its tile

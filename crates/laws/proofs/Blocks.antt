@@ -24,7 +24,7 @@ use Rattle.reader.specs.declared.Tiles.{Tiles}
 use Rattle.reader.specs.declared.BlockAnswer.the-variants.{Block}
 use Rattle.reader.specs.Block.{tileOf, tilesOf, onRow, utmBlock, blockOf}
 use Rattle.reader.proofs.Stages.{placed}
-use Rattle.writer.specs.Compose.{letterOfTile, rowLetter}
+use Rattle.composer.specs.Compose.{letterOfTile, rowLetter}
 use Rattle.laws.proofs.Inside.{Kind, kind, utm-columns, Inside, row-side, row-back, utm-inside, half-columns, hemisphere-rows, Polar, ups-inside}
 
 -- what is known of the tiles of a block

@@ -29,13 +29,13 @@ use Rattle.reader.specs.Head.{letterIn, headOf}
 use Rattle.reader.specs.Read.{partsOf, squareOf, readOf}
 use Rattle.reader.proofs.Stages.{began, squared}
 use Rattle.reader.proofs.Sizes.{Halved, halved-by}
-use Rattle.writer.specs.declared.Composed.{Composed}
-use Rattle.writer.specs.declared.Composed.the-variants.{Full}
+use Rattle.composer.specs.declared.Composed.{Composed}
+use Rattle.composer.specs.declared.Composed.the-variants.{Full}
 use Rattle.writer.specs.Text.{blockText, fullText}
-use Rattle.writer.specs.Compose.{tileOf as tileAt, cutOf, partsAt, madeOf, composed}
+use Rattle.composer.specs.Compose.{tileOf as tileAt, cutOf, partsAt, madeOf, composed}
 use Rattle.writer.specs.Write.{fitOf, leavesOf, answered, kept, writeOf, writeLeaves}
 use Rattle.writer.proofs.Fit.{room, held}
-use Rattle.writer.proofs.Made.{made}
+use Rattle.composer.proofs.Made.{made}
 use Rattle.laws.specs.Sound.{restOf}
 use Rattle.laws.specs.Trips.{Writes}
 use Rattle.laws.proofs.Inside.{kind, Inside}

@@ -26,7 +26,7 @@ use Rattle.position.specs.Ranges.{from-to, eastings}
 use Rattle.position.specs.Edges.{point, mgrsCheck}
 use Rattle.position.proofs.Stays.{north-stays, south-stays, polar-stays}
 use Rattle.reader.specs.Block.{tileOf}
-use Rattle.writer.specs.Compose.{tileOf as tileAt, rowOf, utmFits, agree, upsFits, fits}
+use Rattle.composer.specs.Compose.{tileOf as tileAt, rowOf, utmFits, agree, upsFits, fits}
 
 -- two rules with the same list of values agree at each of its places
 pub alike : {A : Type 0} (f g : ℕ → A) (n : ℕ) → values f 0 n ≡ values g 0 n → (d : A) (k : ℕ) → k < n → f k ≡ g k

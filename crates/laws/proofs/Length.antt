@@ -13,16 +13,16 @@ use Rattle.whole.specs.Floor.{fold}
 use Rattle.whole.proofs.Parts.{clash}
 use Rattle.position.specs.declared.Parts.{Parts}
 use Rattle.reader.specs.declared.Answer.the-variants.{Refused}
-use Rattle.writer.specs.declared.BareZone.{BareZone}
-use Rattle.writer.specs.declared.Composed.{Composed}
-use Rattle.writer.specs.declared.Composed.the-variants.{Full, Bare, Refused as NotComposed}
+use Rattle.composer.specs.declared.BareZone.{BareZone}
+use Rattle.composer.specs.declared.Composed.{Composed}
+use Rattle.composer.specs.declared.Composed.the-variants.{Full, Bare, Refused as NotComposed}
 use Rattle.writer.specs.declared.Written.the-variants.{Length, Refused as NotWritten}
 use Rattle.writer.specs.Text.{headText, headLength, fullText}
-use Rattle.writer.specs.Compose.{partsAt, composed}
+use Rattle.composer.specs.Compose.{partsAt, composed}
 use Rattle.writer.specs.Write.{fitOf, answered, writeOf}
 use Rattle.writer.proofs.Fit.{room, fitted}
 use Rattle.writer.proofs.Stores.{head-length, length-le, full-length}
-use Rattle.writer.proofs.Stages.{full, bare, few}
+use Rattle.composer.proofs.Stages.{full, bare, few}
 use Rattle.laws.specs.Trips.{lengthOf, backOf}
 
 -- a text that has room is not refused

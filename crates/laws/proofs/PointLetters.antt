@@ -21,7 +21,7 @@ use Rattle.rows.proofs.Period.{letter-lt}
 use Rattle.rows.proofs.Theorems.{found}
 use Rattle.reader.specs.Block.{tileOf, tilesOf, utmBlock, blockOf}
 use Rattle.laws.proofs.Inside.{row-side, utm-columns, lowTile, highTile, westTile, eastTile, half-columns, hemisphere-rows}
-use Rattle.writer.specs.Compose.{rowOf, letterOfTile, utmFits, agree, upsFits, fits, rowLetter}
+use Rattle.composer.specs.Compose.{rowOf, letterOfTile, utmFits, agree, upsFits, fits, rowLetter}
 
 -- ---- a tile of a set has its letter there
 

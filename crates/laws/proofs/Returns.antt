@@ -24,9 +24,9 @@ use Rattle.reader.specs.Bare.{bareOf}
 use Rattle.reader.specs.Read.{squareOf, readOf}
 use Rattle.reader.proofs.Stages.{placed, squared, bared}
 use Rattle.reader.proofs.Sizes.{halved-by}
-use Rattle.writer.specs.declared.Composed.the-variants.{Bare as BareText}
+use Rattle.composer.specs.declared.Composed.the-variants.{Bare as BareText}
 use Rattle.writer.specs.Text.{headText}
-use Rattle.writer.specs.Compose.{madeOf}
+use Rattle.composer.specs.Compose.{madeOf}
 use Rattle.laws.specs.Sound.{restOf}
 use Rattle.laws.specs.Trips.{inCapitals, canonical, Writes, Returns}
 use Rattle.laws.proofs.BarePoints.{bare-point}

@@ -18,7 +18,7 @@ use Rattle.reader.specs.Block.{utmBlock, blockOf}
 use Rattle.reader.specs.Digits.{digitsOf}
 use Rattle.reader.specs.Read.{squareOf, fullOf, tailOf, readOf}
 use Rattle.writer.specs.Text.{headText, blockText, fullText}
-use Rattle.writer.specs.Compose.{rowOf, letterOfTile, utmFits, fits, rowLetter, cutOf, partsAt, madeOf, composedAt, composed}
+use Rattle.composer.specs.Compose.{rowOf, letterOfTile, utmFits, fits, rowLetter, cutOf, partsAt, madeOf, composedAt, composed}
 use Rattle.writer.specs.Write.{fitOf, leavesOf, writeOf, writeLeaves}
 use Rattle.laws.specs.Tables.{All}
 use Rattle.laws.specs.Starred.{starred, bareZones}

@@ -1,6 +1,6 @@
 -- The round trips of demand 3: what is read and then written, what is written and then read. Assumes nothing.
 use mathlib.Core.Path.{_≡_}
-use mathlib.Core.Bool.{Bool, true, cond}
+use mathlib.Core.Bool.{Bool, true, false, cond}
 use mathlib.Core.List.{List, [], _∷_, _++_}
 use Prim.Native.Nat.{ℕ, _+_, _*_, _≤_}
 use lib.IntN.{ℤ, pos, negsuc}
@@ -21,11 +21,11 @@ use Rattle.reader.specs.declared.Answer.{Answer}
 use Rattle.reader.specs.declared.Answer.the-variants.{Square, Bare, Refused}
 use Rattle.reader.specs.Head.{headOf}
 use Rattle.reader.specs.Bare.{bareOf}
-use Rattle.writer.specs.declared.Composed.{Composed}
-use Rattle.writer.specs.declared.Composed.the-variants.{Full, Bare as BareText, Refused as NotComposed}
+use Rattle.composer.specs.declared.Composed.{Composed}
+use Rattle.composer.specs.declared.Composed.the-variants.{Full, Bare as BareText, Refused as NotComposed}
 use Rattle.writer.specs.declared.Written.the-variants.{Length}
 use Rattle.writer.specs.Text.{headText}
-use Rattle.writer.specs.Compose.{tileOf, cutOf, composed}
+use Rattle.composer.specs.Compose.{tileOf, cutOf, composed}
 use Rattle.writer.specs.Write.{writeOf, writeLeaves}
 use Rattle.laws.specs.Sound.{restOf}
 
@@ -104,3 +104,11 @@ pub record BareBack (zone : ℤ) (band : ℕ) (a : Answer) : Type 0 where
   pub zone-is : q .zone ≡ zone
   pub band-is : q .band ≡ band
   pub p-is : q .p ≡ negsuc 0
+
+-- "All that the writer writes reads back to that zone, band and digit count and, unless bare, to the square holding the point
+-- after the edge rules": of what was asked for, and of the answer of reading.
+pub record ReadsBack (zone : ℤ) (north : Bool) (band : ℕ) (p e n : ℤ) (a : Answer) : Type 0 where
+  pub point : Point
+  pub is-point : mgrsCheck zone north e n ≡ Moved point
+  pub square : ltZ p (pos 0) ≡ false → SquareBack zone band p point a
+  pub bare : ltZ p (pos 0) ≡ true → (p ≡ negsuc 0) × BareBack zone band a

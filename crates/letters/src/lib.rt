@@ -2,7 +2,7 @@
 ghost use mathlib.Core.Path.{_≡_};
 ghost use Rattle.letters.specs.Letters.{capitalOf, placeOf, letterAt, firstTile};
 ghost use Rattle.letters.specs.Sets.{gridOf, bandsOf, utmColumns, upsColumns, columnsOf, rowsOf, northBand, eastBand};
-ghost use Rattle.letters.specs.Tables.{numberOf, alphabet, codeOf};
+ghost use Rattle.letters.specs.Tables.{alphabet, codeOf};
 ghost use Prim.Native.Nat.{_<_};
 
 // The twelve sets, and one for zones and bands that do not exist.
@@ -28,25 +28,34 @@ pub enum Place {
     NotInSet,
 }
 
-// The sets in the order above, each filled up with zeros: place to letter is one read.
-const LETTERS: [[u8; 24]; 13] = [
-    *b"\0\0\0\0\0\0\0\0\0\0\0\0\0\0\0\0\0\0\0\0\0\0\0\0",
-    *b"CDEFGHJKLMNPQRSTUVWX\0\0\0\0",
-    *b"ABYZ\0\0\0\0\0\0\0\0\0\0\0\0\0\0\0\0\0\0\0\0",
-    *b"ABCDEFGH\0\0\0\0\0\0\0\0\0\0\0\0\0\0\0\0",
-    *b"JKLMNPQR\0\0\0\0\0\0\0\0\0\0\0\0\0\0\0\0",
-    *b"STUVWXYZ\0\0\0\0\0\0\0\0\0\0\0\0\0\0\0\0",
-    *b"ABCDEFGHJKLMNPQRSTUV\0\0\0\0",
-    *b"JKLPQRSTUXYZ\0\0\0\0\0\0\0\0\0\0\0\0",
-    *b"ABCFGHJKLPQR\0\0\0\0\0\0\0\0\0\0\0\0",
-    *b"RSTUXYZ\0\0\0\0\0\0\0\0\0\0\0\0\0\0\0\0\0",
-    *b"ABCFGHJ\0\0\0\0\0\0\0\0\0\0\0\0\0\0\0\0\0",
-    *b"ABCDEFGHJKLMNPQRSTUVWXYZ",
-    *b"ABCDEFGHJKLMNP\0\0\0\0\0\0\0\0\0\0",
-];
+// Each set, filled up with zeros: place to letter is one read, of a table of the set's own: the compiler builds a table where
+// it is read.
+const UTM_BANDS: [u8; 24] = *b"CDEFGHJKLMNPQRSTUVWX\0\0\0\0";
+
+const UPS_BANDS: [u8; 24] = *b"ABYZ\0\0\0\0\0\0\0\0\0\0\0\0\0\0\0\0\0\0\0\0";
+
+const UTM_COLUMNS_0: [u8; 24] = *b"ABCDEFGH\0\0\0\0\0\0\0\0\0\0\0\0\0\0\0\0";
+
+const UTM_COLUMNS_1: [u8; 24] = *b"JKLMNPQR\0\0\0\0\0\0\0\0\0\0\0\0\0\0\0\0";
+
+const UTM_COLUMNS_2: [u8; 24] = *b"STUVWXYZ\0\0\0\0\0\0\0\0\0\0\0\0\0\0\0\0";
+
+const UTM_ROWS: [u8; 24] = *b"ABCDEFGHJKLMNPQRSTUV\0\0\0\0";
+
+const UPS_COLUMNS_A: [u8; 24] = *b"JKLPQRSTUXYZ\0\0\0\0\0\0\0\0\0\0\0\0";
+
+const UPS_COLUMNS_B: [u8; 24] = *b"ABCFGHJKLPQR\0\0\0\0\0\0\0\0\0\0\0\0";
+
+const UPS_COLUMNS_Y: [u8; 24] = *b"RSTUXYZ\0\0\0\0\0\0\0\0\0\0\0\0\0\0\0\0\0";
+
+const UPS_COLUMNS_Z: [u8; 24] = *b"ABCFGHJ\0\0\0\0\0\0\0\0\0\0\0\0\0\0\0\0\0";
+
+const UPS_ROWS_SOUTH: [u8; 24] = *b"ABCDEFGHJKLMNPQRSTUVWXYZ";
+
+const UPS_ROWS_NORTH: [u8; 24] = *b"ABCDEFGHJKLMNP\0\0\0\0\0\0\0\0\0\0";
 
 // The same turned round: under each of A to Z its place in the set, a for 0, b for 1 and so on, or a dot where it is not
-// in the set. Letter to place is one read, of a table of the set's own: the compiler builds a table where it is read.
+// in the set. Letter to place is one read too.
 const ABSENT: u8 = b'.';
 
 const IN_UTM_BANDS: [u8; 26] = *b"..abcdef.ghijk.lmnopqrst..";
@@ -84,27 +93,6 @@ pub fn capital(b: u8) -> u8
         return b;
     }
     b - 32
-}
-
-// Which line of the table is the set's.
-fn number_of(set: LetterSet) -> usize
-    ensures { λ r. ⌜ r ≡ numberOf set ⌝ }
-{
-    match set {
-        LetterSet::NoLetters => 0,
-        LetterSet::UtmBands => 1,
-        LetterSet::UpsBands => 2,
-        LetterSet::UtmColumns0 => 3,
-        LetterSet::UtmColumns1 => 4,
-        LetterSet::UtmColumns2 => 5,
-        LetterSet::UtmRows => 6,
-        LetterSet::UpsColumnsA => 7,
-        LetterSet::UpsColumnsB => 8,
-        LetterSet::UpsColumnsY => 9,
-        LetterSet::UpsColumnsZ => 10,
-        LetterSet::UpsRowsSouth => 11,
-        LetterSet::UpsRowsNorth => 12,
-    }
 }
 
 // What the table holds of the letter that stands `index` letters after A.
@@ -147,6 +135,28 @@ pub fn place_of(set: LetterSet, letter: u8) -> Place
     Place::At(k)
 }
 
+// What the set's table holds at a place.
+fn letter_in(set: LetterSet, place: usize) -> u8
+    requires { ⌜ place < 24 ⌝ }
+    ensures { λ r. ⌜ r ≡ letterAt set place ⌝ }
+{
+    match set {
+        LetterSet::NoLetters => 0,
+        LetterSet::UtmBands => UTM_BANDS[place],
+        LetterSet::UpsBands => UPS_BANDS[place],
+        LetterSet::UtmColumns0 => UTM_COLUMNS_0[place],
+        LetterSet::UtmColumns1 => UTM_COLUMNS_1[place],
+        LetterSet::UtmColumns2 => UTM_COLUMNS_2[place],
+        LetterSet::UtmRows => UTM_ROWS[place],
+        LetterSet::UpsColumnsA => UPS_COLUMNS_A[place],
+        LetterSet::UpsColumnsB => UPS_COLUMNS_B[place],
+        LetterSet::UpsColumnsY => UPS_COLUMNS_Y[place],
+        LetterSet::UpsColumnsZ => UPS_COLUMNS_Z[place],
+        LetterSet::UpsRowsSouth => UPS_ROWS_SOUTH[place],
+        LetterSet::UpsRowsNorth => UPS_ROWS_NORTH[place],
+    }
+}
+
 // The letter at a place, 0 past the set's end.
 pub fn letter_at(set: LetterSet, place: usize) -> u8
     ensures { λ r. ⌜ r ≡ letterAt set place ⌝ }
@@ -154,8 +164,7 @@ pub fn letter_at(set: LetterSet, place: usize) -> u8
     if 24 <= place {
         return 0;
     }
-    let line = number_of(set);
-    LETTERS[line][place]
+    letter_in(set, place)
 }
 
 // The tile of the set's first letter; 0 for bands and UTM rows, which count no tiles.

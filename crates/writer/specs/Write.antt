@@ -5,12 +5,12 @@ use Prim.Native.Nat.{ℕ}
 use lib.Dec.{ltb}
 use lib.IntN.{ℤ}
 use lib.ListN.{length, drop}
-use Rattle.writer.specs.declared.Composed.{Composed}
-use Rattle.writer.specs.declared.Composed.the-variants.{Full, Bare, Refused as NotComposed}
+use Rattle.composer.specs.declared.Composed.{Composed}
+use Rattle.composer.specs.declared.Composed.the-variants.{Full, Bare, Refused as NotComposed}
 use Rattle.writer.specs.declared.Written.{Written}
 use Rattle.writer.specs.declared.Written.the-variants.{Length, Refused}
 use Rattle.writer.specs.Text.{headText, fullText}
-use Rattle.writer.specs.Compose.{composed}
+use Rattle.composer.specs.Compose.{composed}
 
 -- "20 output too short", in a buffer of m bytes; else "The answer is that length".
 unfoldable pub fitOf : List ℕ → ℕ → Written

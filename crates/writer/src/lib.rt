@@ -1,186 +1,14 @@
-// Writes a reference: a point to parts, parts to bytes in a lent buffer, or the number of the rule that forbids it.
-use letters::LetterSet;
-use letters::Place;
-use position::MgrsCheck;
+// Writes a reference: the parts of a point to bytes in a lent buffer, or the number of the rule that forbids it.
+use composer::Composed;
 use position::Parts;
 ghost use mathlib.Core.Path.{_≡_};
-ghost use Prim.Native.Nat.{_+_, _≤_, _<_};
-ghost use lib.IntN.{pos, negsuc};
+ghost use Prim.Native.Nat.{_+_, _≤_};
 ghost use lib.ListN.{length};
 ghost use lib.Seq.{sets};
-ghost use lib.Signed.{_≤ℤ_};
 ghost use Rattle.whole.specs.Floor.{fold};
 ghost use Rattle.runs.specs.Runs.{lastDigits};
-ghost use Rattle.position.specs.Squares.{sideLength};
 ghost use Rattle.writer.specs.Text.{headText, headLength, blockText, fullText};
-ghost use Rattle.writer.specs.Compose.{agree, rowOf, letterOfTile, utmFits, upsFits, fits, rowLetter, cutOf, partsAt, madeOf, composedAt, composed};
 ghost use Rattle.writer.specs.Write.{fitOf, leavesOf, writeOf, writeLeaves};
-
-// ---- a point's tiles, their letters and the bands that fit
-
-const TILE: u64 = 200_000_000_000;
-
-// The signed row of a tile: southern ones are negative.
-fn row_of(north: bool, tile: usize) -> i64
-    requires { ⌜ tile < 1000000000 ⌝ }
-    ensures { λ r. ⌜ r ≡ rowOf north tile ⌝ }
-{
-    if north {
-        return tile as i64;
-    }
-    tile as i64 - 100
-}
-
-// The letter of a tile; 0, which is no letter, where the set has none.
-fn letter_of_tile(set: LetterSet, tile: usize) -> u8
-    ensures { λ r. ⌜ r ≡ letterOfTile set tile ⌝ }
-{
-    let first = letters::first_tile(set);
-    if tile < first {
-        return 0;
-    }
-    letters::letter_at(set, tile - first)
-}
-
-fn utm_fits(k: usize, column: usize, row: i64) -> bool
-    requires { ⌜ (k < 24) × (1 ≤ column) ⌝ }
-    ensures { λ r. ⌜ r ≡ utmFits k column row ⌝ }
-{
-    rows::is_allowed(k as i64 - 10, column - 1, row)
-}
-
-fn do_agree(a: bool, b: bool) -> bool
-    ensures { λ r. ⌜ r ≡ agree a b ⌝ }
-{
-    if a {
-        return b;
-    }
-    !b
-}
-
-// Hemisphere and side: the east begins at tile 20.
-fn ups_fits(band: u8, north: bool, column: usize) -> bool
-    ensures { λ r. ⌜ r ≡ upsFits band north column ⌝ }
-{
-    if do_agree(letters::is_north(band), north) {
-        return do_agree(letters::is_east(band), 20 <= column);
-    }
-    false
-}
-
-fn is_fitting(zone: i64, band: u8, k: usize, north: bool, column: usize, tile: usize) -> bool
-    requires { ⌜ (k < 24) × (1 ≤ column) × (tile < 1000000000) ⌝ }
-    ensures { λ r. ⌜ r ≡ fits zone band k north column tile ⌝ }
-{
-    if zone < 1 {
-        return ups_fits(band, north, column);
-    }
-    utm_fits(k, column, row_of(north, tile))
-}
-
-fn row_letter(zone: i64, north: bool, tile: usize) -> u8
-    requires { ⌜ tile < 1000000000 ⌝ }
-    ensures { λ r. ⌜ r ≡ rowLetter zone north tile ⌝ }
-{
-    let rows = letters::rows_of(zone, north);
-    if zone < 1 {
-        return letter_of_tile(rows, tile);
-    }
-    letters::letter_at(
-        rows,
-        rows::letter_of(rows::shift_of(zone), row_of(north, tile)),
-    )
-}
-
-// ---- 14 to 19: a point's parts
-
-// A bare zone: nothing of a point is in it.
-pub struct BareZone {
-    pub zone: i64,
-    pub band: u8,
-}
-
-// What there is to write, or the rule that forbids it.
-pub enum Composed {
-    Full(Parts),
-    Bare(BareZone),
-    Refused(u64),
-}
-
-// The digits of one axis, cut.
-fn cut_of(p: i64, x: u64) -> u64
-    requires { ⌜ 0 < sideLength p ⌝ }
-    ensures { λ r. ⌜ r ≡ cutOf p x ⌝ }
-{
-    x % TILE / position::side_length(p)
-}
-
-fn parts_at(zone: i64, band: u8, north: bool, p: i64, e: u64, n: u64) -> Parts
-    requires { ⌜ 0 < sideLength p ⌝ }
-    ensures { λ r. ⌜ r ≡ partsAt zone band north p e n ⌝ }
-{
-    let column = letter_of_tile(letters::columns_of(zone, band), (e / TILE) as usize);
-    let row = row_letter(zone, north, (n / TILE) as usize);
-    let easting = cut_of(p, e);
-    let northing = cut_of(p, n);
-    Parts {
-        zone,
-        band,
-        column,
-        row,
-        p,
-        easting,
-        northing,
-    }
-}
-
-fn made_of(zone: i64, band: u8, north: bool, p: i64, e: u64, n: u64) -> Composed
-    requires { ⌜ (negsuc 0 ≤ℤ p) × (p ≤ℤ pos 11) ⌝ }
-    ensures { λ r. ⌜ r ≡ madeOf zone band north p e n ⌝ }
-{
-    if p < 0 {
-        return Composed::Bare(BareZone { zone, band });
-    }
-    Composed::Full(parts_at(zone, band, north, p, e, n))
-}
-
-// 18 and 19, of a point after the edge rules.
-fn compose_at(zone: i64, band: u8, north: bool, p: i64, e: u64, n: u64) -> Composed
-    requires { ⌜ (200000000000 ≤ e) × (negsuc 0 ≤ℤ p) × (p ≤ℤ pos 11) ⌝ }
-    ensures { λ r. ⌜ r ≡ composedAt zone band north p e n ⌝ }
-{
-    let Place::At(k) = letters::place_of(letters::bands_of(zone), band) else {
-        return Composed::Refused(18);
-    };
-    let column = (e / TILE) as usize;
-    let tile = (n / TILE) as usize;
-    if !is_fitting(zone, band, k, north, column, tile) {
-        return Composed::Refused(19);
-    }
-    made_of(zone, band, north, p, e, n)
-}
-
-// 14 and 15, then the range test and the edge rules with 16 and 17, then the rest.
-fn compose(zone: i64, north: bool, band: u8, p: i64, easting: i64, northing: i64) -> Composed
-    ensures { λ r. ⌜ r ≡ composed zone north band p easting northing ⌝ }
-{
-    if whole::is_outside(0, 60, zone) {
-        return Composed::Refused(14);
-    }
-    if whole::is_outside(-1, 11, p) {
-        return Composed::Refused(15);
-    }
-    match position::mgrs_check_coords(zone, north, easting, northing) {
-        MgrsCheck::Refused(k) => Composed::Refused(k),
-        MgrsCheck::Moved(point) => {
-            let e = whole::fold_of(point.easting);
-            let n = whole::fold_of(point.northing);
-            compose_at(zone, band, point.north, p, e, n)
-        }
-    }
-}
-
-// ---- parts to bytes
 
 // The last `count` digits of a number, from a place on; the last of them first.
 fn put_digits(out: &mut [u8], at: usize, count: usize, number: u64)
@@ -274,7 +102,7 @@ pub fn write(
 ) -> Written
     ensures { λ r. ⌜ (r ≡ writeOf zone north band p easting northing (length (now (out .entry)))) × (now (out .exit) ≡ writeLeaves zone north band p easting northing (now (out .entry))) ⌝ }
 {
-    match compose(zone, north, band, p, easting, northing) {
+    match composer::compose(zone, north, band, p, easting, northing) {
         Composed::Full(parts) => put_full(parts, out),
         Composed::Bare(bare) => put_bare(bare.zone, bare.band, out),
         Composed::Refused(k) => Written::Refused(k),

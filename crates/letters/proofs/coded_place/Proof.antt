@@ -1,22 +1,19 @@
 -- `letters::coded_place` meets its contract: each set's table is the list of its places, by computation.
 -- Assumes nothing.
-use mathlib.Core.Path.{_≡_, refl, _∙_}
-use mathlib.Core.List.{List}
-use Prim.Native.Nat.{ℕ, _<_}
-use lib.ListN.{getD}
-use Rattle.whole.proofs.Table.{values, row}
+use mathlib.Core.Path.{refl}
+use Prim.Native.Nat.{ℕ}
 use Rattle.letters.specs.declared.LetterSet.{LetterSet}
 use Rattle.letters.specs.declared.LetterSet.the-variants.{UtmBands, UpsBands, UtmColumns0, UtmColumns1, UtmColumns2, UtmRows, UpsColumnsA, UpsColumnsB, UpsColumnsY, UpsColumnsZ, UpsRowsSouth, UpsRowsNorth}
 use Rattle.letters.specs.Letters.{placeOf, placeFrom}
 use Rattle.letters.specs.Tables.{alphabet, codeOf}
+use Rattle.letters.proofs.Sets.{in-table}
 use borrow.Author.Needs.{needs}
 use Rattle.letters.proofs.coded_place.Statement.{statement}
 use Rattle.letters.proofs.coded_place.Tie as tie
 
--- the table of the set that was matched
-in-table : (given set : LetterSet) (k : ℕ) (xs : List ℕ) → given ≡ set → xs ≡ values (λ i. codeOf (placeOf set (alphabet i))) 0 26 → k < 26
-    → getD xs k 0 ≡ codeOf (placeOf given (alphabet k))
-in-table given set k xs e t h = row (λ i. codeOf (placeOf set (alphabet i))) xs 26 t 0 k h ∙ rw e
+-- what a set's table holds
+abbrev coded : LetterSet → ℕ → ℕ
+coded set k = codeOf (placeOf set (alphabet k))
 
 enum-told : tie.Need-enum-told
 enum-told c = search needs
@@ -99,51 +96,51 @@ returns c = rw (c .enum-told .given .1)
 
 returns-2 : tie.Need-returns-2
 unfolding placeOf placeFrom
-returns-2 c = in-table _ UtmBands _ _ (c .enum-told2 .given .1) refl (c .before .before .pre)
+returns-2 c = in-table coded _ UtmBands 26 _ _ (c .enum-told2 .given .1) refl (c .before .before .pre)
 
 returns-3 : tie.Need-returns-3
 unfolding placeOf placeFrom
-returns-3 c = in-table _ UpsBands _ _ (c .enum-told3 .given .1) refl (c .before .before .pre)
+returns-3 c = in-table coded _ UpsBands 26 _ _ (c .enum-told3 .given .1) refl (c .before .before .pre)
 
 returns-4 : tie.Need-returns-4
 unfolding placeOf placeFrom
-returns-4 c = in-table _ UtmColumns0 _ _ (c .enum-told4 .given .1) refl (c .before .before .pre)
+returns-4 c = in-table coded _ UtmColumns0 26 _ _ (c .enum-told4 .given .1) refl (c .before .before .pre)
 
 returns-5 : tie.Need-returns-5
 unfolding placeOf placeFrom
-returns-5 c = in-table _ UtmColumns1 _ _ (c .enum-told5 .given .1) refl (c .before .before .pre)
+returns-5 c = in-table coded _ UtmColumns1 26 _ _ (c .enum-told5 .given .1) refl (c .before .before .pre)
 
 returns-6 : tie.Need-returns-6
 unfolding placeOf placeFrom
-returns-6 c = in-table _ UtmColumns2 _ _ (c .enum-told6 .given .1) refl (c .before .before .pre)
+returns-6 c = in-table coded _ UtmColumns2 26 _ _ (c .enum-told6 .given .1) refl (c .before .before .pre)
 
 returns-7 : tie.Need-returns-7
 unfolding placeOf placeFrom
-returns-7 c = in-table _ UtmRows _ _ (c .enum-told7 .given .1) refl (c .before .before .pre)
+returns-7 c = in-table coded _ UtmRows 26 _ _ (c .enum-told7 .given .1) refl (c .before .before .pre)
 
 returns-8 : tie.Need-returns-8
 unfolding placeOf placeFrom
-returns-8 c = in-table _ UpsColumnsA _ _ (c .enum-told8 .given .1) refl (c .before .before .pre)
+returns-8 c = in-table coded _ UpsColumnsA 26 _ _ (c .enum-told8 .given .1) refl (c .before .before .pre)
 
 returns-9 : tie.Need-returns-9
 unfolding placeOf placeFrom
-returns-9 c = in-table _ UpsColumnsB _ _ (c .enum-told9 .given .1) refl (c .before .before .pre)
+returns-9 c = in-table coded _ UpsColumnsB 26 _ _ (c .enum-told9 .given .1) refl (c .before .before .pre)
 
 returns-10 : tie.Need-returns-10
 unfolding placeOf placeFrom
-returns-10 c = in-table _ UpsColumnsY _ _ (c .enum-told10 .given .1) refl (c .before .before .pre)
+returns-10 c = in-table coded _ UpsColumnsY 26 _ _ (c .enum-told10 .given .1) refl (c .before .before .pre)
 
 returns-11 : tie.Need-returns-11
 unfolding placeOf placeFrom
-returns-11 c = in-table _ UpsColumnsZ _ _ (c .enum-told11 .given .1) refl (c .before .before .pre)
+returns-11 c = in-table coded _ UpsColumnsZ 26 _ _ (c .enum-told11 .given .1) refl (c .before .before .pre)
 
 returns-12 : tie.Need-returns-12
 unfolding placeOf placeFrom
-returns-12 c = in-table _ UpsRowsSouth _ _ (c .enum-told12 .given .1) refl (c .before .before .pre)
+returns-12 c = in-table coded _ UpsRowsSouth 26 _ _ (c .enum-told12 .given .1) refl (c .before .before .pre)
 
 returns-13 : tie.Need-returns-13
 unfolding placeOf placeFrom
-returns-13 c = in-table _ UpsRowsNorth _ _ (c .enum-told13 .given .1) refl (c .before .before .pre)
+returns-13 c = in-table coded _ UpsRowsNorth 26 _ _ (c .enum-told13 .given .1) refl (c .before .before .pre)
 
 pub coded-place-spec : {M : Type 1} → statement M
 coded-place-spec =

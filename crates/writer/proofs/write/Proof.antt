@@ -9,14 +9,14 @@ use lib.ListN.{length}
 use mir.Syntax.{w64}
 use mir.Facts.{toZ-ofZ}
 use Rattle.position.specs.declared.Parts.{Parts}
-use Rattle.writer.specs.declared.BareZone.{BareZone}
-use Rattle.writer.specs.declared.Composed.the-variants.{Full, Bare, Refused}
+use Rattle.composer.specs.declared.BareZone.{BareZone}
+use Rattle.composer.specs.declared.Composed.the-variants.{Full, Bare, Refused}
 use Rattle.writer.specs.declared.Written.{Written}
 use Rattle.writer.specs.declared.Written.the-variants.{Refused as NotWritten}
 use Rattle.writer.specs.Text.{headText, fullText}
-use Rattle.writer.specs.Compose.{composed}
+use Rattle.composer.specs.Compose.{composed}
 use Rattle.writer.specs.Write.{fitOf, leavesOf, writeOf, writeLeaves}
-use Rattle.writer.proofs.Stages.{few}
+use Rattle.composer.proofs.Stages.{few}
 use borrow.Author.Needs.{needs}
 use Rattle.writer.proofs.write.Statement.{statement}
 use Rattle.writer.proofs.write.Tie as tie

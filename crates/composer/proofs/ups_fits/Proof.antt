@@ -1,10 +1,10 @@
--- `writer::ups_fits` meets its contract, by what hemisphere and side ensure.
+-- `composer::ups_fits` meets its contract, by what hemisphere and side ensure.
 -- Assumes nothing.
 use mathlib.Core.Path.{sym, _∙_}
-use Rattle.writer.specs.Compose.{upsFits}
+use Rattle.composer.specs.Compose.{upsFits}
 use borrow.Author.Needs.{needs}
-use Rattle.writer.proofs.ups_fits.Statement.{statement}
-use Rattle.writer.proofs.ups_fits.Tie as tie
+use Rattle.composer.proofs.ups_fits.Statement.{statement}
+use Rattle.composer.proofs.ups_fits.Tie as tie
 
 is-north-requires : tie.Need-is-north-requires
 is-north-requires c κs = search needs

@@ -1,12 +1,12 @@
--- `writer::cut_of` meets its contract, by what the side of a square ensures.
+-- `composer::cut_of` meets its contract, by what the side of a square ensures.
 -- Assumes nothing.
 use mathlib.Core.Path.{_≡_}
 use mir.Facts.{toZ-ofZ}
 use Rattle.position.specs.Squares.{sideLength}
-use Rattle.writer.specs.Compose.{cutOf}
+use Rattle.composer.specs.Compose.{cutOf}
 use borrow.Author.Needs.{needs}
-use Rattle.writer.proofs.cut_of.Statement.{statement}
-use Rattle.writer.proofs.cut_of.Tie as tie
+use Rattle.composer.proofs.cut_of.Statement.{statement}
+use Rattle.composer.proofs.cut_of.Tie as tie
 
 side : (c : tie.After-side-length) → c .side-length .result ≡ sideLength (c .before .args .p)
 side c = rw (toZ-ofZ (c .before .fits .p)) at (c .side-length .ensures)

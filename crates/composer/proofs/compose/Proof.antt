@@ -1,4 +1,4 @@
--- `writer::compose` meets its contract, test by test.
+-- `composer::compose` meets its contract, test by test.
 -- Assumes nothing.
 use mathlib.Core.Path.{_≡_, sym, _∙_}
 use mathlib.Core.Bool.{false}
@@ -11,10 +11,10 @@ use Rattle.whole.proofs.Ranges.{in-range}
 use Rattle.position.specs.declared.MgrsCheck.the-variants.{Moved}
 use Rattle.position.specs.Edges.{mgrsCheck}
 use Rattle.position.proofs.Reach.{east-least}
-use Rattle.writer.specs.Compose.{composed}
+use Rattle.composer.specs.Compose.{composed}
 use borrow.Author.Needs.{needs}
-use Rattle.writer.proofs.compose.Statement.{statement}
-use Rattle.writer.proofs.compose.Tie as tie
+use Rattle.composer.proofs.compose.Statement.{statement}
+use Rattle.composer.proofs.compose.Tie as tie
 
 is-outside-requires : tie.Need-is-outside-requires
 is-outside-requires c κs = search needs

@@ -1,4 +1,4 @@
--- `writer::row_of` meets its contract, by hemisphere.
+-- `composer::row_of` meets its contract, by hemisphere.
 -- Assumes nothing.
 use mathlib.Core.Path.{_≡_}
 use native.Mathlib.Omega.{arith}
@@ -9,9 +9,9 @@ use mir.Syntax.{w64}
 use mir.Val.{SFits, toZ}
 use mir.Facts.{toZ-ofZ, toZ-pos}
 use Rattle.whole.proofs.Small.{fits, count, difference}
-use Rattle.writer.specs.Compose.{rowOf}
-use Rattle.writer.proofs.row_of.Statement.{statement}
-use Rattle.writer.proofs.row_of.Tie as tie
+use Rattle.composer.specs.Compose.{rowOf}
+use Rattle.composer.proofs.row_of.Statement.{statement}
+use Rattle.composer.proofs.row_of.Tie as tie
 
 tile : (c : tie.Start) → toZ w64 (c .args .tile) ≡ pos (c .args .tile)
 tile c = let h = c .pre in toZ-pos w64 (omega arith)

@@ -1,11 +1,11 @@
--- `writer::is_fitting` meets its contract, by the two kinds of grid.
+-- `composer::is_fitting` meets its contract, by the two kinds of grid.
 -- Assumes nothing.
 use mir.Facts.{toZ-ofZ}
 use Rattle.whole.proofs.Signed.{back}
-use Rattle.writer.specs.Compose.{fits}
+use Rattle.composer.specs.Compose.{fits}
 use borrow.Author.Needs.{needs}
-use Rattle.writer.proofs.is_fitting.Statement.{statement}
-use Rattle.writer.proofs.is_fitting.Tie as tie
+use Rattle.composer.proofs.is_fitting.Statement.{statement}
+use Rattle.composer.proofs.is_fitting.Tie as tie
 
 ups-fits-requires : tie.Need-ups-fits-requires
 ups-fits-requires c κs = search needs

@@ -1,10 +1,10 @@
--- `writer::made_of` meets its contract: a bare zone, or the parts.
+-- `composer::made_of` meets its contract: a bare zone, or the parts.
 -- Assumes nothing.
 use mir.Facts.{toZ-ofZ}
-use Rattle.writer.specs.Compose.{madeOf}
-use Rattle.writer.proofs.Sides.{some-side}
-use Rattle.writer.proofs.made_of.Statement.{statement}
-use Rattle.writer.proofs.made_of.Tie as tie
+use Rattle.composer.specs.Compose.{madeOf}
+use Rattle.composer.proofs.Sides.{some-side}
+use Rattle.composer.proofs.made_of.Statement.{statement}
+use Rattle.composer.proofs.made_of.Tie as tie
 
 returns : tie.Need-returns
 unfolding madeOf

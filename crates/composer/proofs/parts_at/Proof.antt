@@ -1,10 +1,10 @@
--- `writer::parts_at` meets its contract, part by part.
+-- `composer::parts_at` meets its contract, part by part.
 -- Assumes nothing.
 use mir.Facts.{toZ-ofZ}
-use Rattle.writer.specs.Compose.{partsAt}
+use Rattle.composer.specs.Compose.{partsAt}
 use borrow.Author.Needs.{needs}
-use Rattle.writer.proofs.parts_at.Statement.{statement}
-use Rattle.writer.proofs.parts_at.Tie as tie
+use Rattle.composer.proofs.parts_at.Statement.{statement}
+use Rattle.composer.proofs.parts_at.Tie as tie
 
 columns-of-requires : tie.Need-columns-of-requires
 columns-of-requires c κs = search needs

@@ -1,10 +1,10 @@
--- `writer::letter_of_tile` meets its contract, by what the set's first tile and its letters ensure.
+-- `composer::letter_of_tile` meets its contract, by what the set's first tile and its letters ensure.
 -- Assumes nothing.
 use borrow.Author.Needs.{needs}
 use borrow.Author.Tests.{lt-ltb, le-ltb}
-use Rattle.writer.specs.Compose.{letterOfTile}
-use Rattle.writer.proofs.letter_of_tile.Statement.{statement}
-use Rattle.writer.proofs.letter_of_tile.Tie as tie
+use Rattle.composer.specs.Compose.{letterOfTile}
+use Rattle.composer.proofs.letter_of_tile.Statement.{statement}
+use Rattle.composer.proofs.letter_of_tile.Tie as tie
 
 first-tile-requires : tie.Need-first-tile-requires
 first-tile-requires c κs = search needs

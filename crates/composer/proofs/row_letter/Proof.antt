@@ -1,11 +1,11 @@
--- `writer::row_letter` meets its contract, by the two kinds of grid.
+-- `composer::row_letter` meets its contract, by the two kinds of grid.
 -- Assumes nothing.
 use mir.Facts.{toZ-ofZ}
 use Rattle.whole.proofs.Signed.{back}
-use Rattle.writer.specs.Compose.{rowLetter}
+use Rattle.composer.specs.Compose.{rowLetter}
 use borrow.Author.Needs.{needs}
-use Rattle.writer.proofs.row_letter.Statement.{statement}
-use Rattle.writer.proofs.row_letter.Tie as tie
+use Rattle.composer.proofs.row_letter.Statement.{statement}
+use Rattle.composer.proofs.row_letter.Tie as tie
 
 rows-of-requires : tie.Need-rows-of-requires
 rows-of-requires c κs = search needs

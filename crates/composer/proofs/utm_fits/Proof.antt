@@ -1,4 +1,4 @@
--- `writer::utm_fits` meets its contract, by what `is_allowed` ensures.
+-- `composer::utm_fits` meets its contract, by what `is_allowed` ensures.
 -- Assumes nothing.
 use mathlib.Core.Path.{_≡_}
 use native.Mathlib.Omega.{arith}
@@ -9,9 +9,9 @@ use mir.Syntax.{w64}
 use mir.Val.{SFits, toZ}
 use mir.Facts.{toZ-ofZ, toZ-pos}
 use Rattle.whole.proofs.Small.{fits, count, difference}
-use Rattle.writer.specs.Compose.{utmFits}
-use Rattle.writer.proofs.utm_fits.Statement.{statement}
-use Rattle.writer.proofs.utm_fits.Tie as tie
+use Rattle.composer.specs.Compose.{utmFits}
+use Rattle.composer.proofs.utm_fits.Statement.{statement}
+use Rattle.composer.proofs.utm_fits.Tie as tie
 
 place : (c : tie.Start) → toZ w64 (c .args .k) ≡ pos (c .args .k)
 place c = let h = c .pre .0 in toZ-pos w64 (omega arith)

@@ -17,8 +17,8 @@ use Rattle.position.specs.declared.MgrsCheck.{MgrsCheck}
 use Rattle.position.specs.declared.MgrsCheck.the-variants.{Moved, Refused as OutOfRange}
 use Rattle.position.specs.Edges.{mgrsCheck}
 use Rattle.position.specs.Squares.{sideLength}
-use Rattle.writer.specs.declared.Composed.{Composed}
-use Rattle.writer.specs.declared.Composed.the-variants.{Full, Bare, Refused}
+use Rattle.composer.specs.declared.Composed.{Composed}
+use Rattle.composer.specs.declared.Composed.the-variants.{Full, Bare, Refused}
 
 -- "2 x 10^11 to a tile"
 abbrev pub tileOf : ℕ → ℕ

@@ -20,10 +20,10 @@ use Rattle.position.specs.declared.Point.{Point}
 use Rattle.position.specs.declared.MgrsCheck.{MgrsCheck}
 use Rattle.position.specs.declared.MgrsCheck.the-variants.{Moved, Refused as OutOfRange}
 use Rattle.position.specs.Edges.{mgrsCheck}
-use Rattle.writer.specs.declared.BareZone.{BareZone}
-use Rattle.writer.specs.declared.Composed.{Composed}
-use Rattle.writer.specs.declared.Composed.the-variants.{Full, Bare, Refused}
-use Rattle.writer.specs.Compose.{tileOf, fits, partsAt, madeOf, composedAt, reached, composed}
+use Rattle.composer.specs.declared.BareZone.{BareZone}
+use Rattle.composer.specs.declared.Composed.{Composed}
+use Rattle.composer.specs.declared.Composed.the-variants.{Full, Bare, Refused}
+use Rattle.composer.specs.Compose.{tileOf, fits, partsAt, madeOf, composedAt, reached, composed}
 
 -- the outcome of the edge rules, where a refusal is not the answer
 record Reached (c : MgrsCheck) (at : Point → Composed) (y : Composed) : Type 0 where

@@ -1,4 +1,4 @@
--- `writer::compose_at` meets its contract, by what the band, its fit and the parts ensure.
+-- `composer::compose_at` meets its contract, by what the band, its fit and the parts ensure.
 -- Assumes nothing.
 use mathlib.Core.Path.{_≡_, sym, _∙_}
 use native.Mathlib.Omega.{arith}
@@ -7,10 +7,10 @@ use Rattle.letters.specs.declared.Place.the-variants.{At}
 use Rattle.letters.specs.Letters.{placeOf}
 use Rattle.letters.specs.Sets.{bandsOf}
 use Rattle.letters.proofs.Places.{place-lt}
-use Rattle.writer.specs.Compose.{composedAt}
+use Rattle.composer.specs.Compose.{composedAt}
 use borrow.Author.Needs.{needs}
-use Rattle.writer.proofs.compose_at.Statement.{statement}
-use Rattle.writer.proofs.compose_at.Tie as tie
+use Rattle.composer.proofs.compose_at.Statement.{statement}
+use Rattle.composer.proofs.compose_at.Tie as tie
 
 bands-of-requires : tie.Need-bands-of-requires
 bands-of-requires c κs = search needs

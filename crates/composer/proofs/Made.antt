@@ -9,7 +9,7 @@ use Rattle.letters.specs.Letters.{placeOf}
 use Rattle.letters.specs.Sets.{bandsOf}
 use Rattle.position.specs.declared.MgrsCheck.the-variants.{Moved}
 use Rattle.position.specs.Edges.{point, mgrsCheck}
-use Rattle.writer.specs.Compose.{tileOf, fits, madeOf, composedAt, composed}
+use Rattle.composer.specs.Compose.{tileOf, fits, madeOf, composedAt, composed}
 
 -- a point of a zone and p in range that stays, with a band that fits, makes a reference
 pub made : (zone : ℤ) (north : Bool) (band : ℕ) (p : ℤ) (k e n : ℕ) → outside (pos 0) (pos 60) zone ≡ false → outside (negsuc 0) (pos 11) p ≡ false

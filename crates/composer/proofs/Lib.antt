@@ -1,0 +1,4 @@
+mod Sides
+pub mod Stages
+pub mod Made
+pub mod Unique
