@@ -23,7 +23,8 @@ use Rattle.position.specs.Edges.{mgrsCheck}
 use Rattle.composer.specs.declared.BareZone.{BareZone}
 use Rattle.composer.specs.declared.Composed.{Composed}
 use Rattle.composer.specs.declared.Composed.the-variants.{Full, Bare, Refused}
-use Rattle.composer.specs.Compose.{tileOf, fits, partsAt, madeOf, composedAt, reached, composed}
+use Rattle.position.specs.Ranges.{tileAt}
+use Rattle.composer.specs.Compose.{fits, partsAt, madeOf, composedAt, reached, composed}
 
 -- the outcome of the edge rules, where a refusal is not the answer
 record Reached (c : MgrsCheck) (at : Point → Composed) (y : Composed) : Type 0 where
@@ -39,7 +40,7 @@ pub record Checked (zone : ℤ) (north : Bool) (band : ℕ) (p e n : ℤ) : Type
   pub is-point : mgrsCheck zone north e n ≡ Moved point
   pub k : ℕ
   pub is-band : placeOf (bandsOf zone) band ≡ At k
-  pub fit : fits zone band k (point .north) (tileOf (fold (point .easting))) (tileOf (fold (point .northing))) ≡ true
+  pub fit : fits zone band k (point .north) (tileAt (fold (point .easting))) (tileAt (fold (point .northing))) ≡ true
 
 -- what is made of a point that passed them
 abbrev pub madeAt : {zone : ℤ} {north : Bool} {band : ℕ} {p e n : ℤ} → Checked zone north band p e n → Composed
@@ -66,8 +67,8 @@ module _ (y : Composed) (taken : (n : ℕ) → Refused n ≡ y → ⊥) where
       let u = fold (c .point .easting) in
       let v = fold (c .point .northing) in
       let made = madeOf zone band (c .point .north) p u v in
-      let d = in-set (placeOf (bandsOf zone) band) (Refused 18) (λ k. cond (not (fits zone band k (c .point .north) (tileOf u) (tileOf v))) (Refused 19) made) y (taken 18) (c .then) in
-      let f = past (not (fits zone band (d .k) (c .point .north) (tileOf u) (tileOf v))) _ _ _ (taken 19) (d .then) in
+      let d = in-set (placeOf (bandsOf zone) band) (Refused 18) (λ k. cond (not (fits zone band k (c .point .north) (tileAt u) (tileAt v))) (Refused 19) made) y (taken 18) (c .then) in
+      let f = past (not (fits zone band (d .k) (c .point .north) (tileAt u) (tileAt v))) _ _ _ (taken 19) (d .then) in
       record {
         checked = record { zone-in = a .0; p-in = b .0; point = c .point; is-point = c .is; k = d .k; is-band = d .is; fit = not-false _ (f .0) };
         then = f .1;

@@ -15,14 +15,11 @@ use Rattle.position.specs.declared.Parts.{Parts}
 use Rattle.position.specs.declared.Point.{Point}
 use Rattle.position.specs.declared.MgrsCheck.{MgrsCheck}
 use Rattle.position.specs.declared.MgrsCheck.the-variants.{Moved, Refused as OutOfRange}
+use Rattle.position.specs.Ranges.{tileAt}
 use Rattle.position.specs.Edges.{mgrsCheck}
 use Rattle.position.specs.Squares.{sideLength}
 use Rattle.composer.specs.declared.Composed.{Composed}
 use Rattle.composer.specs.declared.Composed.the-variants.{Full, Bare, Refused}
-
--- "2 x 10^11 to a tile"
-abbrev pub tileOf : ℕ → ℕ
-tileOf x = x / 200000000000
 
 -- "Southern tiles are r+100": the signed row of a tile.
 unfoldable pub rowOf : Bool → ℕ → ℤ
@@ -62,8 +59,8 @@ unfoldable pub partsAt : ℤ → ℕ → Bool → ℤ → ℕ → ℕ → Parts
 partsAt zone band north p e n = record {
   zone = zone;
   band = band;
-  column = letterOfTile (columnsOf zone band) (tileOf e);
-  row = rowLetter zone north (tileOf n);
+  column = letterOfTile (columnsOf zone band) (tileAt e);
+  row = rowLetter zone north (tileAt n);
   p = p;
   easting = cutOf p e;
   northing = cutOf p n;
@@ -78,7 +75,7 @@ madeOf zone band north p e n =
 unfoldable pub composedAt : ℤ → ℕ → Bool → ℤ → ℕ → ℕ → Composed
 composedAt zone band north p e n =
     byPlace (placeOf (bandsOf zone) band) (Refused 18)  -- "band letter not a capital of that kind's set"
-    (λ k. cond (not (fits zone band k north (tileOf e) (tileOf n))) (Refused 19)  -- "band does not fit"
+    (λ k. cond (not (fits zone band k north (tileAt e) (tileAt n))) (Refused 19)  -- "band does not fit"
     (madeOf zone band north p e n))
 
 abbrev pub reached : MgrsCheck → (Point → Composed) → Composed

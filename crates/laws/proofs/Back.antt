@@ -42,7 +42,8 @@ use Rattle.composer.specs.declared.Composed.{Composed}
 use Rattle.composer.specs.declared.Composed.the-variants.{Full, Bare as BareText, Refused as NotComposed}
 use Rattle.writer.specs.declared.Written.the-variants.{Length}
 use Rattle.writer.specs.Text.{headText, blockText, fullText}
-use Rattle.composer.specs.Compose.{tileOf, cutOf, fits, letterOfTile, rowLetter, partsAt, composed}
+use Rattle.position.specs.Ranges.{tileAt}
+use Rattle.composer.specs.Compose.{cutOf, fits, letterOfTile, rowLetter, partsAt, composed}
 use Rattle.writer.specs.Write.{fitOf, leavesOf, answered, kept, writeOf, writeLeaves}
 use Rattle.writer.proofs.Fit.{held, fitted}
 use Rattle.composer.proofs.Stages.{Checked, full, bare}
@@ -128,7 +129,7 @@ module _ (n x : ℕ) (few : n ≤ 11) where
       div-lt-iff-lt-mul {k = s} {x = x % 200000000000} {y = 10 ^ n} (side-pos n 0 few) .1 (omega arith)
 
   -- tile and digits number the square along the axis
-  number-is : x / sideLength (pos n) ≡ numberOf n (tileOf x) (cutOf (pos n) x)
+  number-is : x / sideLength (pos n) ≡ numberOf n (tileAt x) (cutOf (pos n) x)
   unfolding cutOf
   number-is =
       let s = sideLength (pos n) in
@@ -140,18 +141,18 @@ module _ (n x : ℕ) (few : n ≤ 11) where
       ap (λ (y : ℕ). y / s) (sym f) ∙ add-mul-div-right r (q * 10 ^ n) (side-pos n 0 few) ∙ omega arith
 
   -- so the square around a coordinate holds it
-  around-holds : holds (pos n) (pos (centreOf (pos n) (tileOf x) (cutOf (pos n) x))) (pos x) ≡ true
+  around-holds : holds (pos n) (pos (centreOf (pos n) (tileAt x) (cutOf (pos n) x))) (pos x) ≡ true
   around-holds =
-      let m = numberOf n (tileOf x) (cutOf (pos n) x) in
-      rw (centre-at n (tileOf x) (cutOf (pos n) x) few cut-lt, holds-is n m few x) (eq-eqb (x / sideLength (pos n)) m number-is)
+      let m = numberOf n (tileAt x) (cutOf (pos n) x) in
+      rw (centre-at n (tileAt x) (cutOf (pos n) x) few cut-lt, holds-is n m few x) (eq-eqb (x / sideLength (pos n)) m number-is)
 
 -- ---- a point
 
 -- a coordinate's tile, by the range that it lies in
-tile-from : (low high : ℕ) (x : ℤ) → Counted low high x → low ≤ tileOf (fold x)
+tile-from : (low high : ℕ) (x : ℤ) → Counted low high x → low ≤ tileAt (fold x)
 tile-from low high x c = let h = c .least in rw (c .is) (omega arith)
 
-tile-to : (low high : ℕ) (x : ℤ) → Counted low high x → tileOf (fold x) < high
+tile-to : (low high : ℕ) (x : ℤ) → Counted low high x → tileAt (fold x) < high
 tile-to low high x c = let h = c .lt in rw (c .is) (omega arith)
 
 -- both coordinates of a UPS point, by its hemisphere
@@ -161,10 +162,10 @@ polar-within point false e r = r .south e
 
 -- the letters of a point that fits are read as its tiles
 abbrev PointReads : ℤ → ℕ → ℕ → Point → Type 0
-PointReads zone band k point = Reads zone band k (point .north) (tileOf (fold (point .easting))) (tileOf (fold (point .northing)))
+PointReads zone band k point = Reads zone band k (point .north) (tileAt (fold (point .easting))) (tileAt (fold (point .northing)))
 
 abbrev PointFits : ℤ → ℕ → ℕ → Point → Type 0
-PointFits zone band k point = fits zone band k (point .north) (tileOf (fold (point .easting))) (tileOf (fold (point .northing))) ≡ true
+PointFits zone band k point = fits zone band k (point .north) (tileAt (fold (point .easting))) (tileAt (fold (point .northing))) ≡ true
 
 module _ (north : Bool) (band : ℕ) (e n : ℤ) (point : Point) (k : ℕ) where
   -- in UTM, in UPS, in both
@@ -205,7 +206,7 @@ full-at (pos z) north band (pos j) e n c t =
     let r = point-reads north band e n (c .point) (c .k) z most (c .is-point) (c .is-band) (c .fit) in
     let x = fold (c .point .easting) in
     let y = fold (c .point .northing) in
-    parts-read z band (c .k) (letterOfTile (columnsOf (pos z) band) (tileOf x)) (rowLetter (pos z) (c .point .north) (tileOf y)) j (cutOf (pos j) x) (cutOf (pos j) y) _ most (c .is-band) (r .block) few (cut-lt j x few) (cut-lt j y few)
+    parts-read z band (c .k) (letterOfTile (columnsOf (pos z) band) (tileAt x)) (rowLetter (pos z) (c .point .north) (tileAt y)) j (cutOf (pos j) x) (cutOf (pos j) y) _ most (c .is-band) (r .block) few (cut-lt j x few) (cut-lt j y few)
     ∙ rw (r .side)
 
 -- a composed zone and band are read as the bare zone

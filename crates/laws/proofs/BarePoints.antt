@@ -20,11 +20,10 @@ use Rattle.letters.proofs.Laws.{place-below}
 use Rattle.rows.specs.Limits.{limitsOf}
 use Rattle.rows.specs.Allowed.{within, sameSign, allowed}
 use Rattle.rows.proofs.Theorems.{in-rows}
-use Rattle.position.specs.Ranges.{tiles}
+use Rattle.position.specs.Ranges.{tiles, tileAt}
 use Rattle.reader.specs.Bare.{metres, bareEasting, bareTile, bareNorthing}
 use Rattle.reader.specs.Block.{tileOf}
 use Rattle.reader.proofs.Bounds.{south-tile}
-use Rattle.composer.specs.Compose.{tileOf as tileAt}
 use Rattle.laws.proofs.Inside.{Kind, kind, Inside, row-side, utm-inside, Polar, ups-inside}
 
 -- a coordinate that is not negative, and its tile

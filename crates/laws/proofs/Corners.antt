@@ -32,7 +32,8 @@ use Rattle.reader.proofs.Sizes.{Halved, halved-by}
 use Rattle.composer.specs.declared.Composed.{Composed}
 use Rattle.composer.specs.declared.Composed.the-variants.{Full}
 use Rattle.writer.specs.Text.{blockText, fullText}
-use Rattle.composer.specs.Compose.{tileOf as tileAt, cutOf, partsAt, madeOf, composed}
+use Rattle.position.specs.Ranges.{tileAt}
+use Rattle.composer.specs.Compose.{cutOf, partsAt, madeOf, composed}
 use Rattle.writer.specs.Write.{fitOf, leavesOf, answered, kept, writeOf, writeLeaves}
 use Rattle.writer.proofs.Fit.{room, held}
 use Rattle.composer.proofs.Made.{made}

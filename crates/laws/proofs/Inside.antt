@@ -12,7 +12,7 @@ use mir.Facts.{and-yes}
 use Rattle.whole.specs.Compare.{outside}
 use Rattle.whole.specs.Floor.{floorMod}
 use Rattle.whole.proofs.Parts.{up, dn, clash, eq-by, sub-parts, ≤ℤ-parts}
-use Rattle.whole.proofs.Table.{values, row}
+use Rattle.whole.proofs.Table.{alike}
 use Rattle.letters.specs.declared.Grid.the-variants.{Utm, Ups, NoZone}
 use Rattle.letters.specs.declared.LetterSet.the-variants.{UtmBands, UpsBands, UtmColumns0, UtmColumns1, UtmColumns2, UpsRowsSouth, UpsRowsNorth}
 use Rattle.letters.specs.declared.Place.the-variants.{At, NotInSet}
@@ -22,15 +22,11 @@ use Rattle.letters.proofs.Laws.{sizeOf, place-below, place-holds}
 use Rattle.rows.specs.Allowed.{within, sameSign, folded, allowed}
 use Rattle.rows.proofs.Theorems.{in-rows, own-sign}
 use Rattle.position.specs.declared.MgrsCheck.the-variants.{Moved}
-use Rattle.position.specs.Ranges.{from-to, eastings}
+use Rattle.position.specs.Ranges.{from-to, eastings, tileAt}
 use Rattle.position.specs.Edges.{point, mgrsCheck}
 use Rattle.position.proofs.Stays.{north-stays, south-stays, polar-stays}
 use Rattle.reader.specs.Block.{tileOf}
-use Rattle.composer.specs.Compose.{tileOf as tileAt, rowOf, utmFits, agree, upsFits, fits}
-
--- two rules with the same list of values agree at each of its places
-pub alike : {A : Type 0} (f g : ℕ → A) (n : ℕ) → values f 0 n ≡ values g 0 n → (d : A) (k : ℕ) → k < n → f k ≡ g k
-alike f g n e d k h = sym (row f (values g 0 n) n (sym e) d k h) ∙ row g (values g 0 n) n refl d k h
+use Rattle.composer.specs.Compose.{rowOf, utmFits, agree, upsFits, fits}
 
 -- ---- the zone
 

@@ -17,6 +17,7 @@ use Rattle.reader.specs.Read.{readOf}
 use Rattle.writer.specs.declared.Written.{Written}
 use Rattle.writer.specs.declared.Written.the-variants.{Length}
 use Rattle.writer.specs.Write.{writeOf, writeLeaves}
+use Rattle.laws.specs.Trips.{writeAt, leavesAt}
 
 -- A square of zone, north, band, p, and easting and northing in centimetres: 20,000 units to each.
 abbrev pub square : ℕ → Bool → ℕ → ℕ → ℕ → ℕ → Answer
@@ -70,11 +71,7 @@ writes zone north p e n band text =
 
 -- What is read, written again: a square from its south-west corner, a bare zone from its point.
 abbrev pub again : Position → Outcome
-again q =
-    inr (
-      writeOf (q .zone) (q .north) (q .band) (q .p) (q .easting) (q .northing) (length dots),
-      writeLeaves (q .zone) (q .north) (q .band) (q .p) (q .easting) (q .northing) dots,
-    )
+again q = inr (writeAt q (length dots), leavesAt q dots)
 
 abbrev pub rewritten : Answer → Outcome
 rewritten (Square q) = again (southWest q)

@@ -23,9 +23,11 @@ use Rattle.reader.specs.Head.{headOf}
 use Rattle.reader.specs.Bare.{bareOf}
 use Rattle.composer.specs.declared.Composed.{Composed}
 use Rattle.composer.specs.declared.Composed.the-variants.{Full, Bare as BareText, Refused as NotComposed}
+use Rattle.writer.specs.declared.Written.{Written}
 use Rattle.writer.specs.declared.Written.the-variants.{Length}
 use Rattle.writer.specs.Text.{headText}
-use Rattle.composer.specs.Compose.{tileOf, cutOf, composed}
+use Rattle.position.specs.Ranges.{tileAt}
+use Rattle.composer.specs.Compose.{cutOf, composed}
 use Rattle.writer.specs.Write.{writeOf, writeLeaves}
 use Rattle.laws.specs.Sound.{restOf}
 
@@ -45,10 +47,18 @@ inCapitals (b ∷ bs) = capitalOf b ∷ inCapitals bs
 abbrev pub canonical : List ℕ → Head → List ℕ
 canonical s head = headText (head .zone) (head .band) ++ inCapitals (restOf s head)
 
+-- "Written from .. with its zone, hemisphere, band and digit count": of a position, the answer in a buffer of m bytes, and what
+-- the buffer then holds.
+abbrev pub writeAt : Position → ℕ → Written
+writeAt q m = writeOf (q .zone) (q .north) (q .band) (q .p) (q .easting) (q .northing) m
+
+abbrev pub leavesAt : Position → List ℕ → List ℕ
+leavesAt q l = writeLeaves (q .zone) (q .north) (q .band) (q .p) (q .easting) (q .northing) l
+
 -- A position is written as a text, "given room": the answer is its length, the buffer holds it and beyond it what it held.
 pub record Writes (q : Position) (t : List ℕ) : Type 0 where
-  pub answer : (l : List ℕ) → length t ≤ length l → writeOf (q .zone) (q .north) (q .band) (q .p) (q .easting) (q .northing) (length l) ≡ Length (length t)
-  pub buffer : (l : List ℕ) → length t ≤ length l → writeLeaves (q .zone) (q .north) (q .band) (q .p) (q .easting) (q .northing) l ≡ t ++ drop (length t) l
+  pub answer : (l : List ℕ) → length t ≤ length l → writeAt q (length l) ≡ Length (length t)
+  pub buffer : (l : List ℕ) → length t ≤ length l → leavesAt q l ≡ t ++ drop (length t) l
 
 -- A position is written as the canonical bytes of a text.
 pub record Returns (s : List ℕ) (q : Position) : Type 0 where
@@ -60,7 +70,7 @@ pub record Returns (s : List ℕ) (q : Position) : Type 0 where
 
 -- The centre of the square of p digits around a coordinate: of its tile and its digits, cut.
 abbrev pub around : ℤ → ℤ → ℤ
-around p x = pos (centreOf p (tileOf (fold x)) (cutOf p (fold x)))
+around p x = pos (centreOf p (tileAt (fold x)) (cutOf p (fold x)))
 
 -- The square of a point after the edge rules.
 unfoldable pub squareAt : ℤ → ℕ → ℤ → Point → Position

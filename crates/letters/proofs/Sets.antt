@@ -1,4 +1,4 @@
--- The sets by their lines in the tables, so that one computation covers all of them. Assumes nothing.
+-- The sets by a number each, so that one computation covers all of them. Assumes nothing.
 use mathlib.Core.Path.{_≡_, refl, subst, _∙_}
 use mathlib.Core.Bool.{Bool}
 use mathlib.Core.List.{List, [], _∷_}
@@ -8,7 +8,22 @@ use lib.ListN.{getD}
 use Rattle.whole.proofs.Table.{values, row, all, each}
 use Rattle.letters.specs.declared.LetterSet.{LetterSet}
 use Rattle.letters.specs.declared.LetterSet.the-variants.{NoLetters, UtmBands, UpsBands, UtmColumns0, UtmColumns1, UtmColumns2, UtmRows, UpsColumnsA, UpsColumnsB, UpsColumnsY, UpsColumnsZ, UpsRowsSouth, UpsRowsNorth}
-use Rattle.letters.specs.Tables.{numberOf}
+
+-- a number for each set, and the set of a number
+abbrev pub numberOf : LetterSet → ℕ
+numberOf NoLetters = 0
+numberOf UtmBands = 1
+numberOf UpsBands = 2
+numberOf UtmColumns0 = 3
+numberOf UtmColumns1 = 4
+numberOf UtmColumns2 = 5
+numberOf UtmRows = 6
+numberOf UpsColumnsA = 7
+numberOf UpsColumnsB = 8
+numberOf UpsColumnsY = 9
+numberOf UpsColumnsZ = 10
+numberOf UpsRowsSouth = 11
+numberOf UpsRowsNorth = 12
 
 abbrev pub setAt : ℕ → LetterSet
 setAt n = getD (NoLetters ∷ UtmBands ∷ UpsBands ∷ UtmColumns0 ∷ UtmColumns1 ∷ UtmColumns2 ∷ UtmRows ∷ UpsColumnsA ∷ UpsColumnsB ∷ UpsColumnsY ∷ UpsColumnsZ ∷ UpsRowsSouth ∷ UpsRowsNorth ∷ []) n NoLetters
@@ -43,7 +58,7 @@ set-is UpsColumnsZ = refl
 set-is UpsRowsSouth = refl
 set-is UpsRowsNorth = refl
 
--- what a computation shows of each line holds of each set
+-- what a computation shows of each number holds of each set
 pub for-all : (f : LetterSet → Bool) → T (all 13 (λ n. f (setAt n))) → (set : LetterSet) → T (f set)
 for-all f t set = subst (λ (s : LetterSet). T (f s)) (set-is set) (each 13 (λ n. f (setAt n)) t (numberOf set) (number-lt set))
 

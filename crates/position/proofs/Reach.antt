@@ -59,7 +59,7 @@ module _ (north : Bool) (e n : ℤ) (pt : Point) where
 -- ---- lowered from the upper end
 
 -- from the lower end on and below the upper one
-record Under (ends : Ends) (x : ℤ) : Type 0 where
+pub record Under (ends : Ends) (x : ℤ) : Type 0 where
   pub from : up (ends .low) + dn x ≤ up x + dn (ends .low)
   pub to : up x + dn (ends .high) < up (ends .high) + dn x
 

@@ -2,7 +2,7 @@
 -- the edge rules. Assumes nothing.
 use mathlib.Core.Path.{_≡_, refl, ap, _∙_}
 use mathlib.Core.Bool.{Bool, true, false, cond}
-use Prim.Native.Nat.{ℕ, _+_, _/_, _≤_, _<_}
+use Prim.Native.Nat.{ℕ, _≤_, _<_}
 use native.Mathlib.Omega.{arith}
 use borrow.Author.Tests.{lt-ltb, le-ltb}
 use lib.IntN.{ℤ, pos, _+ℤ_, _-ℤ_}
@@ -14,16 +14,12 @@ use Rattle.letters.specs.Sets.{gridOf}
 use Rattle.position.specs.declared.Ends.{Ends}
 use Rattle.position.specs.declared.MgrsCheck.the-variants.{Moved}
 use Rattle.position.specs.declared.Verdict.the-variants.{Inside}
-use Rattle.position.specs.Ranges.{from-to, eastings, northings, moved, outOf, judged, verdict}
+use Rattle.position.specs.Ranges.{tileAt, from-to, eastings, northings, moved, outOf, judged, verdict}
 use Rattle.position.specs.Edges.{lowered, point, sideOf, edge, mgrsCheck}
+use Rattle.position.proofs.Reach.{Under}
 
--- from the lower end to below the upper one
-record Within (ends : Ends) (x : ℤ) : Type 0 where
-  from : up (ends .low) + dn x ≤ up x + dn (ends .low)
-  to : up x + dn (ends .high) < up (ends .high) + dn x
-
-module _ (ends : Ends) (x : ℤ) (w : Within ends x) where
-  -- such a value passes both tests of the ends moved by nothing
+module _ (ends : Ends) (x : ℤ) (w : Under ends x) where
+  -- a value from the lower end on and below the upper one passes both tests of the ends moved by nothing
   passes : (below above : Bool) → ltZ x (ends .low -ℤ pos 0) ≡ below → ltZ (ends .high +ℤ pos 0) x ≡ above → cond below true above ≡ false
   unfolding up dn
   passes true above p q = absurd (omega (arith, w .from, lt-yes x (ends .low -ℤ pos 0) p, sub-parts (ends .low) (pos 0)))
@@ -40,12 +36,8 @@ module _ (ends : Ends) (x : ℤ) (w : Within ends x) where
   unfolding lowered
   not-lowered = rw (same-no x (ends .high) (λ e. omega (arith, w .to, ap up e, ap dn e)))
 
--- "2 x 10^11 to a tile": the tile that a count lies in
-abbrev tileAt : ℕ → ℕ
-tileAt x = x / 200000000000
-
 -- a count whose tile is one of a to b - 1 lies within a and b
-in-tiles : (a b x : ℕ) → a ≤ tileAt x → tileAt x < b → Within (from-to (pos a) (pos b)) (pos x)
+in-tiles : (a b x : ℕ) → a ≤ tileAt x → tileAt x < b → Under (from-to (pos a) (pos b)) (pos x)
 unfolding up dn
 in-tiles a b x h g = record { from = omega arith; to = omega arith }
 
@@ -57,7 +49,7 @@ module _ (zone : ℤ) (north : Bool) (e n : ℤ) where
   inside-by false g j = rw (g, j)
 
   -- a point within both ranges is left to the rule of sides
-  within-both : (utm : Bool) → gridOf zone ≡ cond utm Utm Ups → Within (eastings utm north) e → Within (northings utm north) n
+  within-both : (utm : Bool) → gridOf zone ≡ cond utm Utm Ups → Under (eastings utm north) e → Under (northings utm north) n
       → mgrsCheck zone north e n ≡ Moved (cond utm (sideOf north e n) (point north e n))
   unfolding mgrsCheck judged edge
   within-both utm g w v =
@@ -70,7 +62,7 @@ module _ (zone : ℤ) (e n : ℕ) where
       → mgrsCheck zone true (pos e) (pos n) ≡ Moved (point true (pos e) (pos n))
   unfolding sideOf up dn
   north-stays g a b h =
-      let v : Within (northings true true) (pos n) = record { from = omega arith; to = omega arith } in
+      let v : Under (northings true true) (pos n) = record { from = omega arith; to = omega arith } in
       within-both zone true (pos e) (pos n) true g (in-tiles 1 9 e a b) v ∙ rw (le-ltb n 0 (omega arith))
 
   -- and south of it

@@ -1,5 +1,6 @@
 -- The ranges of eastings and northings, and the UTM range test: document 01, "Writing" and "Smaller services". Assumes nothing.
 use mathlib.Core.Bool.{Bool, true, false, cond}
+use Prim.Native.Nat.{ℕ, _/_}
 use lib.IntN.{ℤ, pos, negsuc, _+ℤ_, _-ℤ_, _*ℤ_}
 use lib.Signed.{ltZ}
 use Rattle.letters.specs.Sets.{gridOf, byGrid}
@@ -12,6 +13,10 @@ use Rattle.position.specs.declared.Verdict.the-variants.{Inside, Outside
 -- "2,000,000 to the metre, 2 x 10^11 to a tile (100 km)."
 abbrev pub tiles : ℤ → ℤ
 tiles t = t *ℤ pos 200000000000
+
+-- The tile that a count of units lies in.
+abbrev pub tileAt : ℕ → ℕ
+tileAt x = x / 200000000000
 
 abbrev pub from-to : ℤ → ℤ → Ends
 from-to a b = record { low = tiles a; high = tiles b }

@@ -12,10 +12,7 @@ use Rattle.whole.proofs.Small.{Small, computed, count, sum, difference, quotien
 use Rattle.reader.specs.Bare.{bareTile}
 use Rattle.reader.specs.Block.{tileOf}
 
--- a band's place, as a band, and in the formula of the bare zones
-pub band-small : (k : ℕ) → k < 24 → Small 34 (pos k -ℤ pos 10)
-band-small k h = difference (pos k) (pos 10) (count 24 k (omega arith)) (computed 10 (pos 10) tt)
-
+-- a band's place in the formula of the bare zones
 pub numerator-small : (k : ℕ) → k < 24 → Small 5351 (pos (160 * k) -ℤ pos 1511)
 numerator-small k h = difference (pos (160 * k)) (pos 1511) (count 3840 (160 * k) (omega arith)) (computed 1511 (pos 1511) tt)
 

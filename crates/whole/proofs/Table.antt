@@ -1,5 +1,5 @@
 -- A table's rule, proved at all of its rows by one equation of lists, which antt computes: the table is the list of f's values from 0 on.
--- For two indexes, the values of an outer rule are themselves lists. It holds for rows of any type. Assumes nothing.
+-- It holds for rows of any type. Assumes nothing.
 use mathlib.Core.Path.{_≡_, refl, ap, sym, _∙_}
 use mathlib.Core.List.{List, [], _∷_}
 use Prim.Native.Nat.{ℕ, zero, suc, _+_, _<_}
@@ -21,9 +21,9 @@ from f i (suc n) d (suc k) h = from f (suc i) n d k (le-of-suc-le-suc h) ∙ ap 
 pub row : {A : Type 0} (f : ℕ → A) (xs : List A) (n : ℕ) → xs ≡ values f 0 n → (d : A) (k : ℕ) → k < n → getD xs k d ≡ f k
 row f xs n e d k h = rw e (from f 0 n d k h ∙ ap f (zero-add k))
 
--- the same of a table of tables
-pub row2 : {A : Type 0} (f : ℕ → ℕ → A) (xs : List (List A)) (m n : ℕ) → xs ≡ values (λ i. values (f i) 0 n) 0 m → (d : List A) (e : A) (i k : ℕ) → i < m → k < n → getD (getD xs i d) k e ≡ f i k
-row2 f xs m n t d e i k h g = rw (row (λ i. values (f i) 0 n) xs m t d i h) (row (f i) _ n refl e k g)
+-- two rules with the same list of values agree at each of its places
+pub alike : {A : Type 0} (f g : ℕ → A) (n : ℕ) → values f 0 n ≡ values g 0 n → (d : A) (k : ℕ) → k < n → f k ≡ g k
+alike f g n e d k h = sym (row f (values g 0 n) n (sym e) d k h) ∙ row g (values g 0 n) n refl d k h
 
 -- a test that holds at each number below n, in one computation; for several indexes, a test of tests
 abbrev pub all : ℕ → (ℕ → Bool) → Bool

@@ -8,7 +8,8 @@ use lib.IntN.{pos, _-ℤ_}
 use mir.Syntax.{w64}
 use mir.Val.{SFits, toZ}
 use mir.Facts.{toZ-ofZ, toZ-pos}
-use Rattle.whole.proofs.Small.{fits, count, difference}
+use Rattle.whole.proofs.Parts.{up, dn}
+use Rattle.whole.proofs.Signed.{less-fits}
 use Rattle.composer.specs.Compose.{rowOf}
 use Rattle.composer.proofs.row_of.Statement.{statement}
 use Rattle.composer.proofs.row_of.Tie as tie
@@ -16,10 +17,9 @@ use Rattle.composer.proofs.row_of.Tie as tie
 tile : (c : tie.Start) → toZ w64 (c .args .tile) ≡ pos (c .args .tile)
 tile c = let h = c .pre in toZ-pos w64 (omega arith)
 
-less-fits : (c : tie.Start) → SFits w64 (pos (c .args .tile) -ℤ pos 100)
-less-fits c =
-    let h = c .pre in
-    fits (difference (pos (c .args .tile)) (pos 100) (count 1000000000 (c .args .tile) (omega arith)) (count 100 100 (lit≤ tt))) (lit≤ tt)
+row-fits : (c : tie.Start) → SFits w64 (pos (c .args .tile) -ℤ pos 100)
+unfolding up dn
+row-fits c = let h = c .pre in less-fits (pos (c .args .tile)) 100 (record { sfits = omega arith }) (omega arith) (lit≤ tt)
 
 cast-result : tie.Need-cast-result
 cast-result c = search needs
@@ -32,11 +32,11 @@ cast-result-2 : tie.Need-cast-result-2
 cast-result-2 c = search needs
 
 sub-result : tie.Need-sub-result
-sub-result c = rw (tile (c .before)) (less-fits (c .before))
+sub-result c = rw (tile (c .before)) (row-fits (c .before))
 
 returns-2 : tie.Need-returns-2
 unfolding rowOf
-returns-2 c = rw (tile (c .before), toZ-ofZ (less-fits (c .before)), c .if1 .left)
+returns-2 c = rw (tile (c .before), toZ-ofZ (row-fits (c .before)), c .if1 .left)
 
 pub row-of-spec : {M : Type 1} → statement M
 row-of-spec = tie.close (tie.spec cast-result returns cast-result-2 sub-result returns-2)

@@ -8,7 +8,8 @@ use lib.IntN.{pos, _-ℤ_}
 use mir.Syntax.{w64}
 use mir.Val.{SFits, toZ}
 use mir.Facts.{toZ-ofZ, toZ-pos}
-use Rattle.whole.proofs.Small.{fits, count, difference}
+use Rattle.whole.proofs.Parts.{up, dn}
+use Rattle.whole.proofs.Signed.{less-fits}
 use Rattle.composer.specs.Compose.{utmFits}
 use Rattle.composer.proofs.utm_fits.Statement.{statement}
 use Rattle.composer.proofs.utm_fits.Tie as tie
@@ -17,9 +18,8 @@ place : (c : tie.Start) → toZ w64 (c .args .k) ≡ pos (c .args .k)
 place c = let h = c .pre .0 in toZ-pos w64 (omega arith)
 
 band-fits : (c : tie.Start) → SFits w64 (pos (c .args .k) -ℤ pos 10)
-band-fits c =
-    let h = c .pre .0 in
-    fits (difference (pos (c .args .k)) (pos 10) (count 24 (c .args .k) (omega arith)) (count 10 10 (lit≤ tt))) (lit≤ tt)
+unfolding up dn
+band-fits c = let h = c .pre .0 in less-fits (pos (c .args .k)) 10 (record { sfits = omega arith }) (omega arith) (lit≤ tt)
 
 cast-is-allowed : tie.Need-cast-is-allowed
 cast-is-allowed c = search needs

@@ -8,13 +8,13 @@ use lib.IntN.{pos, _-ℤ_}
 use mir.Syntax.{w64}
 use mir.Val.{SFits, toZ, ofZ}
 use mir.Facts.{toZ-ofZ, toZ-pos}
-use Rattle.whole.proofs.Small.{fits}
+use Rattle.whole.proofs.Parts.{up, dn}
+use Rattle.whole.proofs.Signed.{less-fits}
 use Rattle.rows.specs.declared.RowAnswer.the-variants.{Row}
 use Rattle.rows.specs.Letters.{shiftOf}
 use Rattle.rows.specs.Resolve.{resolve}
 use Rattle.rows.proofs.Theorems.{answered, in-rows}
 use Rattle.reader.specs.Block.{utmBlock}
-use Rattle.reader.proofs.Bounds.{band-small}
 use Rattle.reader.proofs.utm_block.Statement.{statement}
 use Rattle.reader.proofs.utm_block.Tie as tie
 
@@ -22,7 +22,8 @@ place : (c : tie.Start) → toZ w64 (c .args .k) ≡ pos (c .args .k)
 place c = let h = c .pre in toZ-pos w64 (omega arith)
 
 band-fits : (c : tie.Start) → SFits w64 (pos (c .args .k) -ℤ pos 10)
-band-fits c = fits (band-small (c .args .k) (c .pre)) (lit≤ tt)
+unfolding up dn
+band-fits c = let h = c .pre in less-fits (pos (c .args .k)) 10 (record { sfits = omega arith }) (omega arith) (lit≤ tt)
 
 cast-band : tie.Need-cast-band
 cast-band c = search needs
