@@ -1,8 +1,9 @@
 #!/usr/bin/env python3
 """Runs every must-fail edit: each must not only be refused by the prover, but give a wrong answer.
 
-    model/edits.py              runs the edits of every crate
-    model/edits.py CRATE..      runs those of the named crates
+    model/edits.py                      runs the edits of every crate
+    model/edits.py CRATE..              runs those of the named crates
+    model/edits.py --by PROGRAM CRATE.. asks that program alone, to see which of them it catches
 
 The gate shows that the prover refuses an edit. It cannot show that the edited program is wrong: an edit may be refused
 only because a proof no longer fits code that still answers rightly. So this applies each edit to a copy, runs a program
@@ -21,8 +22,8 @@ PROGRAMS.update((crate, WRITING) for crate in ("composer", "writer", "squares"))
 PROGRAMS["trip"] = ("corners",)
 
 
-def programs(crate):
-    return PROGRAMS.get(crate, ("ground", "in_writing"))
+def programs(crate, by):
+    return (by,) if by else PROGRAMS.get(crate, ("ground", "in_writing"))
 
 
 def changed(scratch, crate, path):
@@ -64,17 +65,20 @@ def shown(scratch, program):
 
 
 def main():
+    words = sys.argv[1:]
+    by = words[1] if words[:1] == ["--by"] else None
+    crates = words[2:] if by else words
     silent = 0
     for path in sorted(glob.glob("crates/*/must-fail/*.edit")):
         crate, label = path.split("/")[1], os.path.basename(path)[:-5]
-        if crate == "laws" or sys.argv[1:] and crate not in sys.argv[1:]:
+        if crate == "laws" or crates and crate not in crates:
             continue
         with tempfile.TemporaryDirectory() as scratch:
             for part in ("crates", "crates.txt"):
                 copy = shutil.copytree if os.path.isdir(part) else shutil.copy
                 copy(part, os.path.join(scratch, part))
             changed(scratch, crate, path)
-            what = next(filter(None, (shown(scratch, program) for program in programs(crate))), None)
+            what = next(filter(None, (shown(scratch, program) for program in programs(crate, by))), None)
         silent += what is None
         print(f"{crate}/{label}: {what or 'CHANGES NOTHING'}", flush=True)
     print(silent, "edits change nothing")

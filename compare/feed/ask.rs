@@ -145,10 +145,8 @@ impl<W: Write> Sheet<W> {
         match Mgrs::parse_str(text) {
             Ok(m) => {
                 let (zone, h, x, y) = (m.zone(), side(m.is_north()), m.easting(), m.northing());
-                match m.precision() {
-                    -1 => write!(self.line, " bare {zone} {h} {x} {y}").unwrap(),
-                    p => write!(self.line, " square {zone} {h} {p} {x} {y}").unwrap(),
-                }
+                let (p, case) = (m.precision(), if m.precision() < 0 { "bare" } else { "square" });
+                write!(self.line, " {case} {zone} {h} {p} {x} {y}").unwrap();
             }
             Err(Error::InvalidMgrs(s)) => write!(self.line, " refused {}", reading_number(&s)).unwrap(),
             Err(other) => panic!("the Rust has an error that no rule has: {other:?}"),

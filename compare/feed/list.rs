@@ -118,7 +118,7 @@ fn refusals<W: Write>(sheet: &mut Sheet<W>) {
             }
         }
     }
-    for text in ["INV", "inv18T", "INVé", "IN", "18INV", "é", "18Té", "\n", " 18T", "18T ", "18T\r", "18T WL", "\0", "\u{7f}18T"] {
+    for text in ["INV", "inv18T", "INVé", "IN", "INW", "inu1", "IMV", "JNV", "18INV", "é", "18Té", "\n", " 18T", "18T ", "18T\r", "18T WL", "\0", "\u{7f}18T"] {
         sheet.read(text);
     }
 }

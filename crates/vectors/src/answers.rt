@@ -78,29 +78,25 @@ fn in_metres(out: &mut [u8], at: usize, good: bool) -> usize {
     put(out, at, b", not so in metres")
 }
 
-fn put_place(out: &mut [u8], at: usize, q: Position) -> usize {
+// Of a square and of a bare zone alike. The decimal of a point is that of its units: below 16 digits it is the shortest one of
+// the nearest f64.
+fn put_position(out: &mut [u8], at: usize, q: Position) -> usize {
     let zone = put_number(out, at, q.zone);
-    put_side(out, zone, q.north)
-}
-
-// The decimal of a square or a bare zone is that of its units: below 16 digits it is the shortest one of the nearest f64.
-fn put_point(out: &mut [u8], at: usize, q: Position) -> usize {
-    let easting = put_metres(out, at, q.easting);
+    let side = put_side(out, zone, q.north);
+    let p = put_number(out, side, q.p);
+    let easting = put_metres(out, p, q.easting);
     put_metres(out, easting, q.northing)
 }
 
 fn square(text: &[u8], q: Position, out: &mut [u8]) -> usize {
     let word = put(out, 0, b"square");
-    let place = put_place(out, word, q);
-    let p = put_number(out, place, q.p);
-    let end = put_point(out, p, q);
+    let end = put_position(out, word, q);
     in_metres(out, end, is_in_metres(text, false, q))
 }
 
 fn bare(text: &[u8], q: Position, out: &mut [u8]) -> usize {
     let word = put(out, 0, b"bare");
-    let place = put_place(out, word, q);
-    let end = put_point(out, place, q);
+    let end = put_position(out, word, q);
     in_metres(out, end, is_in_metres(text, true, q))
 }
 
