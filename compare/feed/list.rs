@@ -25,14 +25,15 @@ fn limits(band: i32) -> (i32, i32) {
 /// Document 01's own, and those of the source's documentation that need no projection.
 fn examples<W: Write>(sheet: &mut Sheet<W>) {
     const TEXTS: &str = "18TWL856641113154 27UXQ0314512982 YXL6143481146 4qfj 04QFJ 18T 31V Z 31WCL 31WBL 31WFL 31WGL 31VCM \
-        31VDM 31XBV 31XAV 31WBA 31WCA 31WCK 18 0 61C 018T inv 18I 18TW 18TAL 18TWW 18TWA 18TWAX 18TWLX 18TWL8 100T 060T 32X \
-        32XNG 34XDM 36XVS 4QFJ12345678 18TWL1234567 18TWL123456781234567 A B Y";
+        31VDM 31XBV 31XAV 31WBA 31WCA 31WCK 18 0 61C 018T inv 18I 18TW 18TAL 18TWW 18TWA 18TWAX 18TWLX 18TWL8 18TWL8: 18TWL/8 \
+        100T 060T 32X 32XNG 34XDM 36XVS 4QFJ12345678 18TWL1234567 18TWL123456781234567 A B Y";
     sheet.read("");
     for text in TEXTS.split_whitespace() {
         sheet.read(text);
     }
-    // Past the compared domain: 22 digits are the most, and the Rust tells 13 after sums that wrap.
+    // Past the compared domain: 22 digits are the most, and the Rust tells 12 and 13 after sums that wrap.
     sheet.everywhere = true;
+    sheet.read("18TWL01234567890123456789012");
     sheet.read("18TWL012345678901234567890123");
     sheet.everywhere = false;
     for zone in [18, -10, 70] {
@@ -118,7 +119,10 @@ fn refusals<W: Write>(sheet: &mut Sheet<W>) {
             }
         }
     }
-    for text in ["INV", "inv18T", "INVé", "IN", "INW", "inu1", "IMV", "JNV", "18INV", "é", "18Té", "\n", " 18T", "18T ", "18T\r", "18T WL", "\0", "\u{7f}18T"] {
+    for text in ["INV", "inv18T", "INVé", "IN", "INW", "inu1", "IMV", "JNV", "18INV", "é", "18Té"] {
+        sheet.read(text);
+    }
+    for text in ["\n", " 18T", "18T ", "18T\r", "18T WL", "\0", "\u{7f}18T"] {
         sheet.read(text);
     }
 }
@@ -216,6 +220,9 @@ fn edge<W: Write>(sheet: &mut Sheet<W>, at: Point, lower: bool) {
 fn degrees<W: Write>(sheet: &mut Sheet<W>) {
     for zone in 1..=60 {
         sheet.zone(0, (6 * zone - 183) * DEGREE);
+    }
+    for latitude in [-90, 90] {
+        sheet.zone(latitude * DEGREE, 0);
     }
     for eight in -12..=12 {
         for latitude in around(8 * eight, 8 * eight) {
