@@ -5,7 +5,6 @@
 //   band  and the same fields                       the text written, the library being told a latitude amid the band
 //
 // Metres are told to a tenth of a micrometre. An error is told as "refused: " and its message.
-#include <cstdio>
 #include <iostream>
 #include <sstream>
 #include <string>
@@ -13,30 +12,11 @@
 #include <GeographicLib/MGRS.hpp>
 #include <GeographicLib/UTMUPS.hpp>
 
+#include "shown.hpp"
+
 using GeographicLib::GeographicErr;
 using GeographicLib::MGRS;
 using std::string;
-
-// Messages may repeat bytes of the text: one line of ASCII is made of them.
-static string shown(const string& text) {
-  string out;
-  for (unsigned char c : text) {
-    char octal[8];
-    snprintf(octal, sizeof octal, "\\0%03o", c);
-    out += c >= 32 && c < 127 ? string(1, c) : string(octal);
-  }
-  return out;
-}
-
-static string metres(double x) {
-  char text[64];
-  snprintf(text, sizeof text, "%.7f", x);
-  string out = text;
-  if (out.find('.') == string::npos) return out;
-  out.erase(out.find_last_not_of('0') + 1);
-  if (out.back() == '.') out.pop_back();
-  return out;
-}
 
 static string read(const string& text) {
   int zone, p;

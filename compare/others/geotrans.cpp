@@ -6,7 +6,6 @@
 //
 // Metres are told to a tenth of a micrometre. An error is told as "refused: " and its message, a warning behind the answer.
 // The tuples that reading returns hold no precision, so none is told.
-#include <cstdio>
 #include <iostream>
 #include <memory>
 #include <sstream>
@@ -18,32 +17,10 @@
 #include "MGRSorUSNGCoordinates.h"
 #include "UPSCoordinates.h"
 #include "UTMCoordinates.h"
+#include "shown.hpp"
 
 using namespace MSP::CCS;
 using std::string;
-
-// Messages end in a newline and may repeat bytes of the text: one line of ASCII is made of them.
-static string shown(const string& text) {
-  string out;
-  for (unsigned char c : text) {
-    char octal[8];
-    snprintf(octal, sizeof octal, "\\0%03o", c);
-    if (c == '\n') out += ' ';
-    else out += c >= 32 && c < 127 ? string(1, c) : string(octal);
-  }
-  while (!out.empty() && out.back() == ' ') out.pop_back();
-  return out;
-}
-
-static string metres(double x) {
-  char text[64];
-  snprintf(text, sizeof text, "%.7f", x);
-  string out = text;
-  if (out.find('.') == string::npos) return out;
-  out.erase(out.find_last_not_of('0') + 1);
-  if (out.back() == '.') out.pop_back();
-  return out;
-}
 
 static string warned(const CoordinateTuple& tuple) {
   string warning = shown(tuple.warningMessage());
