@@ -8,7 +8,7 @@ use std::io::Write;
 use std::panic::catch_unwind;
 
 pub const TILE: i64 = 200_000_000_000;
-pub const EQUATOR: i64 = 100 * TILE;
+const EQUATOR: i64 = 100 * TILE;
 pub const KINDS: [&str; 7] = ["read", "write", "mgrs", "utm", "band", "zone", "row"];
 
 /// A point as both sides take it.
@@ -31,7 +31,7 @@ pub struct Sheet<W: Write> {
     pub strange: Vec<String>,
 }
 
-pub fn metres(units: i64) -> f64 {
+fn metres(units: i64) -> f64 {
     units as f64 / 2_000_000.0
 }
 
@@ -179,6 +179,17 @@ impl<W: Write> Sheet<W> {
                 self.put_write(at, band, p, &format!("text {text}"));
             }
             Err(_) => self.strange(format!("Display panics at {at:?}, p {p}")),
+        }
+    }
+
+    /// A precision that is none, asked of `set_precision`, since `create` takes any. It also refuses 0 and -1, as listed.
+    pub fn precision(&mut self, at: Point, p: i32) {
+        let made = Mgrs::create(at.zone, at.north, metres(at.easting), metres(at.northing), 5);
+        match made.expect("a point in range").set_precision(p) {
+            Err(Error::InvalidPrecision(_)) if !(-1..=11).contains(&p) => {
+                self.put_write(at, if at.zone == 0 { 'A' } else { 'N' }, p, "refused 15");
+            }
+            other => self.strange(format!("set_precision {p} answers {other:?}")),
         }
     }
 

@@ -204,6 +204,16 @@ fn edges<W: Write>(sheet: &mut Sheet<W>) {
     }
 }
 
+/// Numbers of digits that there are not.
+fn precisions<W: Write>(sheet: &mut Sheet<W>) {
+    for zone in [0, 18] {
+        let at = Point { zone, north: true, easting: (if zone == 0 { 20 } else { 5 }) * TILE + 4, northing: 20 * TILE + 4 };
+        for p in [i32::MIN, -5, -2, 12, 13, i32::MAX] {
+            sheet.precision(at, p);
+        }
+    }
+}
+
 /// The range of UTM is one tile wider, outward.
 fn edge<W: Write>(sheet: &mut Sheet<W>, at: Point, lower: bool) {
     for p in [0, 5, 10] {
@@ -249,6 +259,7 @@ pub fn list<W: Write>(sheet: &mut Sheet<W>, rng: &mut Rng) {
     rows(sheet, rng);
     written(sheet, rng);
     edges(sheet);
+    precisions(sheet);
     degrees(sheet);
     texts::random(sheet, rng, 100);
     for p in (0..11).cycle().take(150) {
