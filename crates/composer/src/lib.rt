@@ -143,7 +143,7 @@ fn compose_at(zone: i64, band: u8, north: bool, p: i64, e: u64, n: u64) -> Compo
     requires { ⌜ (200000000000 ≤ e) × (negsuc 0 ≤ℤ p) × (p ≤ℤ pos 11) ⌝ }
     ensures { λ r. ⌜ r ≡ composedAt zone band north p e n ⌝ }
 {
-    let Place::At(k) = letters::place_of(letters::bands_of(zone), band) else {
+    let Place::At(k) = letters::band_place(zone, band) else {
         return Composed::Refused(18);
     };
     let column = (e / TILE) as usize;

@@ -19,7 +19,7 @@ use Rattle.letters.specs.declared.Place.the-variants.{At}
 use Rattle.letters.specs.Letters.{placeOf}
 use Rattle.letters.specs.Sets.{gridOf, bandsOf, columnsOf, rowsOf, northBand}
 use Rattle.runs.specs.Runs.{hasHigh, lastDigits}
-use Rattle.runs.proofs.Digits.{digits-length, digits-all, digits-value, all-append, low-digits}
+use Rattle.runs.proofs.Decimals.{digits-length, digits-all, digits-value, all-append, low-digits}
 use Rattle.position.specs.declared.Parts.{Parts}
 use Rattle.position.specs.declared.Point.{Point}
 use Rattle.position.specs.declared.MgrsCheck.the-variants.{Moved}
@@ -29,12 +29,12 @@ use Rattle.position.proofs.Squares.{centre-at, side-pos, tile-sides, holds-is}
 use Rattle.position.proofs.Reach.{Counted, Within, UpsReach, utm-reach, ups-reach, east-count, north-count}
 use Rattle.reader.specs.declared.Tiles.{Tiles}
 use Rattle.reader.specs.declared.BlockAnswer.the-variants.{Block}
-use Rattle.reader.specs.declared.DigitsAnswer.the-variants.{Halves}
+use Rattle.runs.specs.declared.DigitsAnswer.the-variants.{Halves}
 use Rattle.reader.specs.declared.Answer.{Answer}
 use Rattle.reader.specs.declared.Answer.the-variants.{Square, Bare}
 use Rattle.reader.specs.Bare.{bareOf}
 use Rattle.reader.specs.Block.{blockOf}
-use Rattle.reader.specs.Digits.{digitsOf}
+use Rattle.runs.specs.Digits.{digitsOf}
 use Rattle.reader.specs.Read.{squareOf, fullOf, tailOf, readOf}
 use Rattle.reader.proofs.Stages.{placed}
 use Rattle.composer.specs.declared.BareZone.{BareZone}

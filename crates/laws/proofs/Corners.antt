@@ -19,11 +19,11 @@ use Rattle.position.specs.Squares.{sideLength, numberOf, centreOf, cornerOf}
 use Rattle.position.proofs.Squares.{centre-at, corner-is, side-pos, tile-sides, half-is}
 use Rattle.runs.specs.Runs.{allDigits, lastDigits}
 use Rattle.runs.proofs.Laws.{and-left, and-right, all-split}
-use Rattle.runs.proofs.Digits.{first-digits}
+use Rattle.runs.proofs.Decimals.{first-digits}
 use Rattle.reader.specs.declared.Head.{Head}
 use Rattle.reader.specs.declared.HeadAnswer.the-variants.{Start}
 use Rattle.reader.specs.declared.Tiles.{Tiles}
-use Rattle.reader.specs.declared.Digits.{Digits}
+use Rattle.runs.specs.declared.Digits.{Digits}
 use Rattle.reader.specs.declared.Answer.the-variants.{Square}
 use Rattle.reader.specs.Head.{letterIn, headOf}
 use Rattle.reader.specs.Read.{partsOf, squareOf, readOf}

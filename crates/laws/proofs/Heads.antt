@@ -20,7 +20,7 @@ use Rattle.letters.specs.Sets.{gridOf, byGrid, bandsOf}
 use Rattle.letters.proofs.Laws.{no-capital}
 use Rattle.runs.specs.Runs.{high, hasHigh, isDigit, allDigits, valueFrom, valueOf, leadOf, lastDigits}
 use Rattle.runs.proofs.Laws.{digit-range, all-head}
-use Rattle.runs.proofs.Digits.{digits-length, digits-all, digits-value, low-digits, leading}
+use Rattle.runs.proofs.Decimals.{digits-length, digits-all, digits-value, low-digits, leading}
 use Rattle.reader.specs.declared.HeadAnswer.the-variants.{Start}
 use Rattle.reader.specs.Head.{invLetters, isInv, zoneWrong, headOf}
 use Rattle.writer.specs.Text.{headText}

@@ -8,6 +8,7 @@ pub mod BarePoints
 pub mod Corners
 pub mod Returns
 pub mod Shorts
+pub mod Refused
 pub mod Heads
 pub mod PointLetters
 pub mod Back

@@ -15,7 +15,7 @@ use Rattle.runs.specs.Runs.{hasHigh, isDigit, allDigits, valueFrom, leadingDigi
 use Rattle.reader.specs.Head.{invLetters, isInv, zoneWrong, headOf}
 use Rattle.reader.specs.Bare.{bareEasting, bareTile, bareNorthing, bareOf}
 use Rattle.reader.specs.Block.{utmBlock, blockOf}
-use Rattle.reader.specs.Digits.{digitsOf}
+use Rattle.runs.specs.Digits.{digitsOf}
 use Rattle.reader.specs.Read.{squareOf, fullOf, tailOf, readOf}
 use Rattle.writer.specs.Text.{headText, blockText, fullText}
 use Rattle.composer.specs.Compose.{rowOf, letterOfTile, utmFits, fits, rowLetter, cutOf, partsAt, madeOf, composedAt, composed}

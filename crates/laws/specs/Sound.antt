@@ -15,11 +15,11 @@ use Rattle.rows.specs.Letters.{shiftOf, letterOf}
 use Rattle.position.specs.declared.Position.{Position}
 use Rattle.reader.specs.declared.Head.{Head}
 use Rattle.reader.specs.declared.HeadAnswer.the-variants.{Start}
-use Rattle.reader.specs.declared.Digits.{Digits}
-use Rattle.reader.specs.declared.DigitsAnswer.the-variants.{Halves}
+use Rattle.runs.specs.declared.Digits.{Digits}
+use Rattle.runs.specs.declared.DigitsAnswer.the-variants.{Halves}
 use Rattle.reader.specs.declared.Answer.the-variants.{Square}
 use Rattle.reader.specs.Head.{letterIn, headOf}
-use Rattle.reader.specs.Digits.{digitsOf}
+use Rattle.runs.specs.Digits.{digitsOf}
 use Rattle.reader.specs.Read.{partsOf, squareOf, readOf}
 
 -- What follows the band letter.

@@ -24,6 +24,12 @@ use Rattle.letters.proofs.is_north as is-north
 use Rattle.letters.proofs.is_north.Reads as is-north-reads
 use Rattle.letters.proofs.is_east as is-east
 use Rattle.letters.proofs.is_east.Reads as is-east-reads
+use Rattle.letters.proofs.band_place as band-place
+use Rattle.letters.proofs.band_place.Reads as band-place-reads
+use Rattle.letters.proofs.column_place as column-place
+use Rattle.letters.proofs.column_place.Reads as column-place-reads
+use Rattle.letters.proofs.row_place as row-place
+use Rattle.letters.proofs.row_place.Reads as row-place-reads
 
 pub capital-unique : (κs : Lfts 0) (a : ArgsD capital.signature κs) (r r′ : ResD capital.signature κs) (s s′ : AtExit capital.ended κs) → capital-reads.Post κs a r s → capital-reads.Post κs a r′ s′ → r ≡ r′
 capital-unique κs a r r′ s s′ p q = p ∙ sym q
@@ -54,3 +60,12 @@ is-north-unique κs a r r′ s s′ p q = p ∙ sym q
 
 pub is-east-unique : (κs : Lfts 0) (a : ArgsD is-east.signature κs) (r r′ : ResD is-east.signature κs) (s s′ : AtExit is-east.ended κs) → is-east-reads.Post κs a r s → is-east-reads.Post κs a r′ s′ → r ≡ r′
 is-east-unique κs a r r′ s s′ p q = p ∙ sym q
+
+pub band-place-unique : (κs : Lfts 0) (a : ArgsD band-place.signature κs) (r r′ : ResD band-place.signature κs) (s s′ : AtExit band-place.ended κs) → band-place-reads.Post κs a r s → band-place-reads.Post κs a r′ s′ → r ≡ r′
+band-place-unique κs a r r′ s s′ p q = p ∙ sym q
+
+pub column-place-unique : (κs : Lfts 0) (a : ArgsD column-place.signature κs) (r r′ : ResD column-place.signature κs) (s s′ : AtExit column-place.ended κs) → column-place-reads.Post κs a r s → column-place-reads.Post κs a r′ s′ → r ≡ r′
+column-place-unique κs a r r′ s s′ p q = p ∙ sym q
+
+pub row-place-unique : (κs : Lfts 0) (a : ArgsD row-place.signature κs) (r r′ : ResD row-place.signature κs) (s s′ : AtExit row-place.ended κs) → row-place-reads.Post κs a r s → row-place-reads.Post κs a r′ s′ → r ≡ r′
+row-place-unique κs a r r′ s s′ p q = p ∙ sym q

@@ -1,14 +1,59 @@
--- How the program's own tables are laid out. No public answer speaks of this. Assumes nothing.
-use Prim.Native.Nat.{ℕ, _+_}
+-- How the program's own tables are laid out. No public answer speaks of this: that it gives the place in the set is proved.
+-- Assumes nothing.
+use mathlib.Core.Bool.{cond}
+use mathlib.Core.List.{List}
+use Prim.Native.Nat.{ℕ, _+_, _-_}
 use Prim.Native.Char.{code}
+use lib.Dec.{eqb, leb, ltb}
+use Rattle.whole.specs.Text.{bytes}
+use Rattle.letters.specs.declared.LetterSet.{LetterSet}
+use Rattle.letters.specs.declared.LetterSet.the-variants.{NoLetters, UtmBands, UpsBands, UtmColumns0, UtmColumns1, UtmColumns2, UtmRows, UpsColumnsA, UpsColumnsB, UpsColumnsY, UpsColumnsZ, UpsRowsSouth, UpsRowsNorth}
 use Rattle.letters.specs.declared.Place.{Place}
 use Rattle.letters.specs.declared.Place.the-variants.{At, NotInSet}
+use Rattle.letters.specs.Letters.{placeFrom}
 
--- The alphabet, A for 0.
-abbrev pub alphabet : ℕ → ℕ
-alphabet i = code "A" + i
+-- The alphabets that the sets are runs of: all letters but I and O, those of the UPS columns, the UPS bands.
+abbrev pub lettersIn : ℕ → List ℕ
+lettersIn n = cond (eqb n 0) (bytes "ABCDEFGHJKLMNPQRSTUVWXYZ") (cond (eqb n 1) (bytes "ABCFGHJKLPQRSTUXYZ") (bytes "ABYZ"))
 
 -- A place as a byte of the table: a for 0, b for 1 and so on, a dot for none.
 abbrev pub codeOf : Place → ℕ
 codeOf (At k) = code "a" + k
 codeOf NotInSet = code "."
+
+-- What an alphabet's table holds of the letter that stands i letters after A.
+unfoldable pub codeIn : ℕ → ℕ → ℕ
+codeIn n i = codeOf (placeFrom 0 (lettersIn n) (code "A" + i))
+
+-- The place of a code in a run of so many from the first on.
+unfoldable pub inRun : ℕ → ℕ → ℕ → Place
+inRun x first count = cond (ltb x first) NotInSet (cond (leb count (x - first)) NotInSet (At (x - first)))
+
+-- Where a byte stands in a run: nowhere, if it is no capital.
+unfoldable pub placeIn : ℕ → ℕ → ℕ → ℕ → Place
+placeIn n first count b =
+    cond (ltb b (code "A")) NotInSet (cond (ltb (code "Z") b) NotInSet (inRun (codeIn n (b - code "A")) first count))
+
+-- A set as a run: its alphabet, the code of its first letter there, and how many letters it has.
+pub record Run : Type 0 where
+  pub alphabet : ℕ
+  pub first : ℕ
+  pub count : ℕ
+
+abbrev pub run : ℕ → ℕ → ℕ → Run
+run alphabet first count = record { alphabet = alphabet; first = first; count = count }
+
+unfoldable pub runOf : LetterSet → Run
+runOf NoLetters = run 1 (code "a") 0
+runOf UtmBands = run 0 (code "c") 20
+runOf UpsBands = run 2 (code "a") 4
+runOf UtmColumns0 = run 0 (code "a") 8
+runOf UtmColumns1 = run 0 (code "i") 8
+runOf UtmColumns2 = run 0 (code "q") 8
+runOf UtmRows = run 0 (code "a") 20
+runOf UpsColumnsA = run 1 (code "g") 12
+runOf UpsColumnsB = run 1 (code "a") 12
+runOf UpsColumnsY = run 1 (code "l") 7
+runOf UpsColumnsZ = run 1 (code "a") 7
+runOf UpsRowsSouth = run 0 (code "a") 24
+runOf UpsRowsNorth = run 0 (code "a") 14

@@ -1,8 +1,9 @@
 // The letters of document 01: which set a zone and a band use, and where in it a letter stands.
 ghost use mathlib.Core.Path.{_≡_};
+ghost use mathlib.Core.Bool.{cond};
 ghost use Rattle.letters.specs.Letters.{capitalOf, placeOf, letterAt, firstTile};
 ghost use Rattle.letters.specs.Sets.{gridOf, bandsOf, utmColumns, upsColumns, columnsOf, rowsOf, northBand, eastBand};
-ghost use Rattle.letters.specs.Tables.{alphabet, codeOf};
+ghost use Rattle.letters.specs.Tables.{runOf, codeIn, inRun, placeIn};
 ghost use Prim.Native.Nat.{_<_};
 
 // The twelve sets, and one for zones and bands that do not exist.
@@ -54,33 +55,14 @@ const UPS_ROWS_SOUTH: [u8; 24] = *b"ABCDEFGHJKLMNPQRSTUVWXYZ";
 
 const UPS_ROWS_NORTH: [u8; 24] = *b"ABCDEFGHJKLMNP\0\0\0\0\0\0\0\0\0\0";
 
-// The same turned round: under each of A to Z its place in the set, a for 0, b for 1 and so on, or a dot where it is not
-// in the set. Letter to place is one read too.
-const ABSENT: u8 = b'.';
+// The other way round, every set is a run of one of three alphabets: all letters but I and O, those of the UPS columns, and
+// the UPS bands. Under each of A to Z stands its place there, a for 0, b for 1 and so on, or a dot. So letter to place is
+// one read too, and for all UTM sets of the same table: what the zone is costs no branch.
+const ALL_LETTERS: [u8; 26] = *b"abcdefgh.ijklm.nopqrstuvwx";
 
-const IN_UTM_BANDS: [u8; 26] = *b"..abcdef.ghijk.lmnopqrst..";
+const COLUMN_LETTERS: [u8; 26] = *b"abc..def.ghi...jklmno..pqr";
 
-const IN_UPS_BANDS: [u8; 26] = *b"ab......................cd";
-
-const IN_UTM_COLUMNS_0: [u8; 26] = *b"abcdefgh..................";
-
-const IN_UTM_COLUMNS_1: [u8; 26] = *b".........abcde.fgh........";
-
-const IN_UTM_COLUMNS_2: [u8; 26] = *b"..................abcdefgh";
-
-const IN_UTM_ROWS: [u8; 26] = *b"abcdefgh.ijklm.nopqrst....";
-
-const IN_UPS_COLUMNS_A: [u8; 26] = *b".........abc...defghi..jkl";
-
-const IN_UPS_COLUMNS_B: [u8; 26] = *b"abc..def.ghi...jkl........";
-
-const IN_UPS_COLUMNS_Y: [u8; 26] = *b".................abcd..efg";
-
-const IN_UPS_COLUMNS_Z: [u8; 26] = *b"abc..def.g................";
-
-const IN_UPS_ROWS_SOUTH: [u8; 26] = *b"abcdefgh.ijklm.nopqrstuvwx";
-
-const IN_UPS_ROWS_NORTH: [u8; 26] = *b"abcdefgh.ijklm.n..........";
+const BAND_LETTERS: [u8; 26] = *b"ab......................cd";
 
 // a-z count as A-Z.
 pub fn capital(b: u8) -> u8
@@ -95,31 +77,99 @@ pub fn capital(b: u8) -> u8
     b - 32
 }
 
-// What the table holds of the letter that stands `index` letters after A.
-fn coded_place(set: LetterSet, index: usize) -> u8
-    requires { ⌜ index < 26 ⌝ }
-    ensures { λ r. ⌜ r ≡ codeOf (placeOf set (alphabet index)) ⌝ }
+// The alphabet that a set is a run of.
+fn alphabet_of(set: LetterSet) -> u8
+    ensures { λ r. ⌜ r ≡ runOf set .alphabet ⌝ }
 {
     match set {
-        LetterSet::NoLetters => ABSENT,
-        LetterSet::UtmBands => IN_UTM_BANDS[index],
-        LetterSet::UpsBands => IN_UPS_BANDS[index],
-        LetterSet::UtmColumns0 => IN_UTM_COLUMNS_0[index],
-        LetterSet::UtmColumns1 => IN_UTM_COLUMNS_1[index],
-        LetterSet::UtmColumns2 => IN_UTM_COLUMNS_2[index],
-        LetterSet::UtmRows => IN_UTM_ROWS[index],
-        LetterSet::UpsColumnsA => IN_UPS_COLUMNS_A[index],
-        LetterSet::UpsColumnsB => IN_UPS_COLUMNS_B[index],
-        LetterSet::UpsColumnsY => IN_UPS_COLUMNS_Y[index],
-        LetterSet::UpsColumnsZ => IN_UPS_COLUMNS_Z[index],
-        LetterSet::UpsRowsSouth => IN_UPS_ROWS_SOUTH[index],
-        LetterSet::UpsRowsNorth => IN_UPS_ROWS_NORTH[index],
+        LetterSet::NoLetters => 1,
+        LetterSet::UtmBands => 0,
+        LetterSet::UpsBands => 2,
+        LetterSet::UtmColumns0 => 0,
+        LetterSet::UtmColumns1 => 0,
+        LetterSet::UtmColumns2 => 0,
+        LetterSet::UtmRows => 0,
+        LetterSet::UpsColumnsA => 1,
+        LetterSet::UpsColumnsB => 1,
+        LetterSet::UpsColumnsY => 1,
+        LetterSet::UpsColumnsZ => 1,
+        LetterSet::UpsRowsSouth => 0,
+        LetterSet::UpsRowsNorth => 0,
     }
 }
 
-// Where a capital stands in a set; a small letter stands in none.
-pub fn place_of(set: LetterSet, letter: u8) -> Place
-    ensures { λ r. ⌜ r ≡ placeOf set letter ⌝ }
+// The code of the set's first letter there.
+fn first_code(set: LetterSet) -> u8
+    ensures { λ r. ⌜ r ≡ runOf set .first ⌝ }
+{
+    match set {
+        LetterSet::NoLetters => b'a',
+        LetterSet::UtmBands => b'c',
+        LetterSet::UpsBands => b'a',
+        LetterSet::UtmColumns0 => b'a',
+        LetterSet::UtmColumns1 => b'i',
+        LetterSet::UtmColumns2 => b'q',
+        LetterSet::UtmRows => b'a',
+        LetterSet::UpsColumnsA => b'g',
+        LetterSet::UpsColumnsB => b'a',
+        LetterSet::UpsColumnsY => b'l',
+        LetterSet::UpsColumnsZ => b'a',
+        LetterSet::UpsRowsSouth => b'a',
+        LetterSet::UpsRowsNorth => b'a',
+    }
+}
+
+// How many letters the set has.
+fn letter_count(set: LetterSet) -> u8
+    ensures { λ r. ⌜ r ≡ runOf set .count ⌝ }
+{
+    match set {
+        LetterSet::NoLetters => 0,
+        LetterSet::UtmBands => 20,
+        LetterSet::UpsBands => 4,
+        LetterSet::UtmColumns0 => 8,
+        LetterSet::UtmColumns1 => 8,
+        LetterSet::UtmColumns2 => 8,
+        LetterSet::UtmRows => 20,
+        LetterSet::UpsColumnsA => 12,
+        LetterSet::UpsColumnsB => 12,
+        LetterSet::UpsColumnsY => 7,
+        LetterSet::UpsColumnsZ => 7,
+        LetterSet::UpsRowsSouth => 24,
+        LetterSet::UpsRowsNorth => 14,
+    }
+}
+
+// What the alphabet's table holds of the letter that stands `index` letters after A.
+fn code_in(alphabet: u8, index: usize) -> u8
+    requires { ⌜ index < 26 ⌝ }
+    ensures { λ r. ⌜ r ≡ codeIn alphabet index ⌝ }
+{
+    match alphabet {
+        0 => ALL_LETTERS[index],
+        1 => COLUMN_LETTERS[index],
+        _ => BAND_LETTERS[index],
+    }
+}
+
+// The place in a run; a dot comes before all codes.
+fn in_run(code: u8, first: u8, count: u8) -> Place
+    ensures { λ r. ⌜ r ≡ inRun code first count ⌝ }
+{
+    if code < first {
+        return Place::NotInSet;
+    }
+    let k = code - first;
+    if count <= k {
+        return Place::NotInSet;
+    }
+    let place = k as usize;
+    Place::At(place)
+}
+
+// Where a capital stands in a run; a small letter stands in none.
+fn place_in(alphabet: u8, first: u8, count: u8, letter: u8) -> Place
+    ensures { λ r. ⌜ r ≡ placeIn alphabet first count letter ⌝ }
 {
     if letter < b'A' {
         return Place::NotInSet;
@@ -127,12 +177,14 @@ pub fn place_of(set: LetterSet, letter: u8) -> Place
     if b'Z' < letter {
         return Place::NotInSet;
     }
-    let code = coded_place(set, (letter - b'A') as usize);
-    if code == ABSENT {
-        return Place::NotInSet;
-    }
-    let k = (code - b'a') as usize;
-    Place::At(k)
+    in_run(code_in(alphabet, (letter - b'A') as usize), first, count)
+}
+
+// Where a capital stands in a set.
+pub fn place_of(set: LetterSet, letter: u8) -> Place
+    ensures { λ r. ⌜ r ≡ placeOf set letter ⌝ }
+{
+    place_in(alphabet_of(set), first_code(set), letter_count(set), letter)
 }
 
 // What the set's table holds at a place.
@@ -270,6 +322,87 @@ pub fn rows_of(zone: i64, north: bool) -> LetterSet
             LetterSet::UpsRowsSouth
         }
         Grid::NoZone => LetterSet::NoLetters,
+    }
+}
+
+// ---- the same without naming the set: what reading asks, with no branch on which of its sets a zone or a band uses
+
+// The place of a band's letter.
+pub fn band_place(zone: i64, letter: u8) -> Place
+    ensures { λ r. ⌜ r ≡ placeOf (bandsOf zone) letter ⌝ }
+{
+    match grid_of(zone) {
+        Grid::Utm => place_in(0, b'c', 20, letter),
+        Grid::Ups => place_in(2, b'a', 4, letter),
+        Grid::NoZone => Place::NotInSet,
+    }
+}
+
+// The code of the first column, every three zones and in each UPS band.
+fn utm_first(third: u64) -> u8
+    ensures { λ r. ⌜ r ≡ runOf (utmColumns third) .first ⌝ }
+{
+    match third {
+        0 => b'a',
+        1 => b'i',
+        _ => b'q',
+    }
+}
+
+fn ups_first(band: u8) -> u8
+    ensures { λ r. ⌜ r ≡ runOf (upsColumns band) .first ⌝ }
+{
+    match band {
+        b'A' => b'g',
+        b'B' => b'a',
+        b'Y' => b'l',
+        b'Z' => b'a',
+        _ => b'a',
+    }
+}
+
+// How many columns a UPS band has.
+fn ups_count(band: u8) -> u8
+    ensures { λ r. ⌜ r ≡ runOf (upsColumns band) .count ⌝ }
+{
+    match band {
+        b'A' => 12,
+        b'B' => 12,
+        b'Y' => 7,
+        b'Z' => 7,
+        _ => 0,
+    }
+}
+
+// The place of a column's letter.
+pub fn column_place(zone: i64, band: u8, letter: u8) -> Place
+    ensures { λ r. ⌜ r ≡ placeOf (columnsOf zone band) letter ⌝ }
+{
+    match grid_of(zone) {
+        Grid::Utm => place_in(0, utm_first(whole::floor_mod(zone - 1, 3)), 8, letter),
+        Grid::Ups => place_in(1, ups_first(band), ups_count(band), letter),
+        Grid::NoZone => Place::NotInSet,
+    }
+}
+
+// How many rows a UPS hemisphere has.
+fn ups_rows(north: bool) -> u8
+    ensures { λ r. ⌜ r ≡ cond north 14 24 ⌝ }
+{
+    if north {
+        return 14;
+    }
+    24
+}
+
+// The place of a row's letter.
+pub fn row_place(zone: i64, north: bool, letter: u8) -> Place
+    ensures { λ r. ⌜ r ≡ placeOf (rowsOf zone north) letter ⌝ }
+{
+    match grid_of(zone) {
+        Grid::Utm => place_in(0, b'a', 20, letter),
+        Grid::Ups => place_in(0, b'a', ups_rows(north), letter),
+        Grid::NoZone => Place::NotInSet,
     }
 }
 

@@ -30,12 +30,12 @@ use Rattle.position.proofs.Squares.{centre-at, centre-split, in-tile}
 use Rattle.position.proofs.Exact.{Exactly}
 use Rattle.reader.specs.declared.Tiles.{Tiles}
 use Rattle.reader.specs.declared.BlockAnswer.the-variants.{Block}
-use Rattle.reader.specs.declared.Digits.{Digits}
-use Rattle.reader.specs.declared.DigitsAnswer.the-variants.{Halves}
+use Rattle.runs.specs.declared.Digits.{Digits}
+use Rattle.runs.specs.declared.DigitsAnswer.the-variants.{Halves}
 use Rattle.reader.specs.declared.Answer.the-variants.{Square, Bare}
 use Rattle.reader.specs.Bare.{metres, bareTile, bareEasting, bareNorthing, bareOf}
 use Rattle.reader.specs.Block.{tileOf, tilesOf, onRow, utmBlock, blockOf}
-use Rattle.reader.specs.Digits.{digitsOf}
+use Rattle.runs.specs.Digits.{digitsOf}
 use Rattle.reader.specs.Read.{squareOf, readOf}
 use Rattle.reader.proofs.Bounds.{bare-small, southern-small, south-tile, north-tile}
 use Rattle.whole.proofs.Choice.{past}

@@ -9,7 +9,6 @@ use lib.Dec.{eqb, ltb, leb}
 use lib.IntN.{ℤ, pos}
 use lib.Signed.{ltZ}
 use lib.ListN.{length, take, drop, length-drop}
-use lib.Seq.{take-all}
 use Rattle.whole.proofs.Choice.{past}
 use Rattle.whole.proofs.Parts.{clash}
 use Rattle.letters.specs.declared.Place.the-variants.{At}
@@ -24,20 +23,16 @@ use Rattle.reader.specs.declared.HeadAnswer.the-variants.{Start, NoStart
 use Rattle.reader.specs.declared.Tiles.{Tiles}
 use Rattle.reader.specs.declared.BlockAnswer.{BlockAnswer}
 use Rattle.reader.specs.declared.BlockAnswer.the-variants.{Block, NoBlock}
-use Rattle.reader.specs.declared.Digits.{Digits}
-use Rattle.reader.specs.declared.DigitsAnswer.{DigitsAnswer}
-use Rattle.reader.specs.declared.DigitsAnswer.the-variants.{Halves, NoHalves}
+use Rattle.runs.specs.declared.Digits.{Digits}
+use Rattle.runs.specs.declared.DigitsAnswer.{DigitsAnswer}
+use Rattle.runs.specs.declared.DigitsAnswer.the-variants.{Halves, NoHalves}
 use Rattle.reader.specs.declared.Answer.{Answer}
 use Rattle.reader.specs.declared.Answer.the-variants.{Square, Bare}
 use Rattle.reader.specs.Head.{letterIn, isInv, zoneWrong, headOf}
 use Rattle.reader.specs.Bare.{bareOf}
 use Rattle.reader.specs.Block.{tilesOf, utmBlock, blockOf}
-use Rattle.reader.specs.Digits.{digitsOf}
+use Rattle.runs.specs.Digits.{digitsOf}
 use Rattle.reader.specs.Read.{partsOf, squareOf, begun, blocked, halved, fullOf, tailOf, readOf}
-
--- a part of a slice that goes to its end
-pub rest : (s : List ℕ) (n : ℕ) → take (length s - n) (drop n s) ≡ drop n s
-rest s n = take-all (length s - n) (drop n s) (omega (arith, length-drop n s))
 
 -- ---- up to the band
 

@@ -15,16 +15,16 @@ use Rattle.reader.specs.declared.HeadAnswer.the-variants.{Start, NoStart
 use Rattle.reader.specs.declared.Tiles.{Tiles}
 use Rattle.reader.specs.declared.BlockAnswer.{BlockAnswer}
 use Rattle.reader.specs.declared.BlockAnswer.the-variants.{Block, NoBlock}
-use Rattle.reader.specs.declared.Digits.{Digits}
-use Rattle.reader.specs.declared.DigitsAnswer.{DigitsAnswer}
-use Rattle.reader.specs.declared.DigitsAnswer.the-variants.{Halves, NoHalves}
+use Rattle.runs.specs.declared.Digits.{Digits}
+use Rattle.runs.specs.declared.DigitsAnswer.{DigitsAnswer}
+use Rattle.runs.specs.declared.DigitsAnswer.the-variants.{Halves, NoHalves}
 use Rattle.position.specs.declared.Parts.{Parts}
 use Rattle.reader.specs.declared.Answer.{Answer}
 use Rattle.reader.specs.declared.Answer.the-variants.{Square, Bare, Refused}
 use Rattle.reader.specs.Head.{letterIn, headOf}
 use Rattle.reader.specs.Bare.{bareOf}
 use Rattle.reader.specs.Block.{blockOf}
-use Rattle.reader.specs.Digits.{digitsOf}
+use Rattle.runs.specs.Digits.{digitsOf}
 
 -- The parts of a full reference.
 abbrev pub partsOf : ℤ → ℕ → ℕ → ℕ → Digits → Parts

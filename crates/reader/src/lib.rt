@@ -6,8 +6,8 @@ use position::MetresAnswer;
 use position::Parts;
 use position::Position;
 use rows::RowAnswer;
+use runs::DigitsAnswer;
 use runs::Lead;
-use runs::Run;
 ghost use mathlib.Core.Path.{_≡_};
 ghost use mathlib.Core.Bool.{true};
 ghost use Prim.Native.Nat.{_+_, _≤_, _<_};
@@ -15,10 +15,9 @@ ghost use lib.IntN.{pos, negsuc};
 ghost use lib.ListN.{length};
 ghost use lib.Signed.{_≤ℤ_};
 ghost use Rattle.letters.specs.Letters.{firstTile};
-ghost use Rattle.reader.specs.Head.{invLetters, isInv, zoneWrong, headOf};
+ghost use Rattle.reader.specs.Head.{isInv, zoneWrong, headOf};
 ghost use Rattle.reader.specs.Bare.{bareTile, bareEasting, bareNorthing, bareOf};
 ghost use Rattle.reader.specs.Block.{tileOf, utmBlock, blockOf};
-ghost use Rattle.reader.specs.Digits.{digitsOf};
 ghost use Rattle.reader.specs.Read.{squareOf, fullOf, tailOf, readOf};
 ghost use Rattle.position.specs.Metres.{exact};
 ghost use Rattle.reader.specs.Metres.{metresAt, metresRead};
@@ -38,28 +37,20 @@ pub enum HeadAnswer {
     NoStart(u64),
 }
 
-fn inv_letters(a: u8, b: u8, c: u8) -> bool
-    ensures { λ r. ⌜ r ≡ invLetters a b c ⌝ }
-{
-    if a != b'I' {
-        return false;
-    }
-    if b != b'N' {
-        return false;
-    }
-    c == b'V'
-}
-
+// The first letter alone tells nearly every text apart.
 fn is_inv(s: &[u8]) -> bool
     ensures { λ r. ⌜ r ≡ isInv (now (s .entry)) ⌝ }
 {
     if s.len() < 3 {
         return false;
     }
-    let a = letters::capital(s[0]);
-    let b = letters::capital(s[1]);
-    let c = letters::capital(s[2]);
-    inv_letters(a, b, c)
+    if letters::capital(s[0]) != b'I' {
+        return false;
+    }
+    if letters::capital(s[1]) != b'N' {
+        return false;
+    }
+    letters::capital(s[2]) == b'V'
 }
 
 // No digits are no wrong zone: they are UPS.
@@ -97,7 +88,7 @@ fn head_of(s: &[u8]) -> HeadAnswer
     }
     let zone = lead.value as i64;
     let band = letters::capital(s[count]);
-    let Place::At(place) = letters::place_of(letters::bands_of(zone), band) else {
+    let Place::At(place) = letters::band_place(zone, band) else {
         return HeadAnswer::NoStart(6);
     };
     let next = count + 1;
@@ -222,60 +213,19 @@ fn block_of(zone: i64, band: u8, k: usize, column: u8, row: u8) -> BlockAnswer
     requires { ⌜ k < 24 ⌝ }
     ensures { λ r. ⌜ r ≡ blockOf zone band k column row ⌝ }
 {
-    let columns = letters::columns_of(zone, band);
-    let Place::At(c) = letters::place_of(columns, column) else {
+    let north = letters::is_north(band);
+    let Place::At(c) = letters::column_place(zone, band, column) else {
         return BlockAnswer::NoBlock(8);
     };
-    let rows = letters::rows_of(zone, letters::is_north(band));
-    let Place::At(l) = letters::place_of(rows, row) else {
+    let Place::At(l) = letters::row_place(zone, north, row) else {
         return BlockAnswer::NoBlock(9);
     };
-    let easting = tile_at(columns, c);
+    let easting = tile_at(letters::columns_of(zone, band), c);
     if zone < 1 {
-        let northing = tile_at(rows, l);
+        let northing = tile_at(letters::rows_of(zone, north), l);
         return BlockAnswer::Block(Tiles { easting, northing });
     }
     utm_block(zone, k, c, l, easting)
-}
-
-// ---- 11, 12, 13: the digits
-
-// Digits of each axis, and the two numbers that they spell.
-pub struct Digits {
-    pub p: i64,
-    pub easting: u64,
-    pub northing: u64,
-}
-
-pub enum DigitsAnswer {
-    Halves(Digits),
-    NoHalves(u64),
-}
-
-// Each half is read once; where both are digits, all are.
-fn digits_of(s: &[u8]) -> DigitsAnswer
-    ensures { λ r. ⌜ r ≡ digitsOf (now (s .entry)) ⌝ }
-{
-    let n = s.len();
-    let half = n / 2;
-    let Run::Number(easting) = runs::run_of(&s[..half]) else {
-        return DigitsAnswer::NoHalves(11);
-    };
-    let Run::Number(northing) = runs::run_of(&s[half..]) else {
-        return DigitsAnswer::NoHalves(11);
-    };
-    if n % 2 == 1 {
-        return DigitsAnswer::NoHalves(12);
-    }
-    if 22 < n {
-        return DigitsAnswer::NoHalves(13);
-    }
-    let p = half as i64;
-    DigitsAnswer::Halves(Digits {
-        p,
-        easting,
-        northing,
-    })
 }
 
 // ---- parts to position
@@ -313,7 +263,7 @@ fn full_of(zone: i64, band: u8, k: usize, rest: &[u8]) -> Answer
     let row = letters::capital(rest[1]);
     match block_of(zone, band, k, column, row) {
         BlockAnswer::NoBlock(n) => Answer::Refused(n),
-        BlockAnswer::Block(tiles) => match digits_of(&rest[2..]) {
+        BlockAnswer::Block(tiles) => match runs::digits_of(&rest[2..]) {
             DigitsAnswer::NoHalves(n) => Answer::Refused(n),
             DigitsAnswer::Halves(d) => {
                 let parts = Parts {

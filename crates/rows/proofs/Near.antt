@@ -16,7 +16,7 @@ use Rattle.whole.proofs.Small.{Small, computed}
 use Rattle.whole.proofs.Table.{all, each}
 use Rattle.rows.specs.declared.Limits.{Limits}
 use Rattle.rows.specs.Limits.{limitsOf, lowest, highest, northern, noRows}
-use Rattle.rows.specs.Allowed.{within, sameSign, foldedCase, folded, foldColumn, allowed}
+use Rattle.rows.specs.Allowed.{between, sameSign, foldedCase, folded, foldColumn, allowed}
 
 -- past the tenth band there are no limits
 pub past : (b : ℕ) → 10 ≤ b → (limitsOf (pos b) ≡ noRows) × (limitsOf (negsuc b) ≡ noRows)
@@ -78,7 +78,7 @@ by-sign (negsuc b) (pos r) h k =
     absurd (omega (arith, le-of (highest (negsuc b)) (negsuc 0) (southward b), le-of (pos r) (highest (negsuc b)) k))
 by-sign (negsuc b) (negsuc r) h k = refl
 
-within-placed : (b r : ℤ) → T (within b r) → Placed b r
+within-placed : (b r : ℤ) → T (between (limitsOf b) r) → Placed b r
 within-placed b r t =
     let s = and-yes (leZ (lowest b) r) (leZ r (highest b)) t in
     let h = le-of (lowest b) r (s .0) in
@@ -137,5 +137,5 @@ folded-placed (negsuc b) c (negsuc r) t = near-placed (negsuc b) (negsuc r) (and
 pub allowed-placed : (b : ℤ) (c : ℕ) (r : ℤ) → allowed b c r ≡ true → Placed b r
 unfolding allowed
 allowed-placed b c r e =
-    let t = and-yes (leb c 7) (within b r || folded b c r) (subst T (sym e) tt) in
-    ⊎-elim (within-placed b r) (folded-placed b c r) (or-yes (within b r) (folded b c r) (t .1))
+    let t = and-yes (leb c 7) (between (limitsOf b) r || folded b c r) (subst T (sym e) tt) in
+    ⊎-elim (within-placed b r) (folded-placed b c r) (or-yes (between (limitsOf b) r) (folded b c r) (t .1))

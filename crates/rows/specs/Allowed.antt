@@ -5,11 +5,15 @@ use lib.Dec.{eqb, leb}
 use lib.IntN.{ℤ, pos, negsuc}
 use lib.Signed.{leZ}
 use Rattle.whole.specs.Floor.{fold}
-use Rattle.rows.specs.Limits.{lowest, highest}
+use Rattle.rows.specs.declared.Limits.{Limits}
+use Rattle.rows.specs.Limits.{limitsOf}
 
 -- Within the limits, both ends in.
+abbrev pub between : Limits → ℤ → Bool
+between l r = leZ (l .low) r && leZ r (l .high)
+
 abbrev pub within : ℤ → ℤ → Bool
-within b r = leZ (lowest b) r && leZ r (highest b)
+within b r = between (limitsOf b) r
 
 -- "only where band and row are both negative or neither is"
 abbrev pub sameSign : ℤ → ℤ → Bool
@@ -37,3 +41,7 @@ folded b c r = sameSign b r && foldedCase (fold r) (fold b) (foldColumn c)
 -- A row that a band and a column index allow; columns are 0..7.
 unfoldable pub allowed : ℤ → ℕ → ℤ → Bool
 allowed b c r = leb c 7 && (within b r || folded b c r)
+
+-- The same where the band's limits are at hand.
+abbrev pub allowedBy : Limits → ℤ → ℕ → ℤ → Bool
+allowedBy l b c r = leb c 7 && (between l r || folded b c r)

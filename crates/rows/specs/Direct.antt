@@ -9,9 +9,12 @@ use Rattle.rows.specs.Limits.{lowest}
 abbrev pub base : ℤ → ℤ
 base b = lowest b -ℤ pos 1
 
--- The one among them with the letter of an odd zone.
+-- The one among them with the letter of an odd zone, by the lowest.
+abbrev pub candidateFrom : ℤ → ℕ → ℤ
+candidateFrom low l = (low -ℤ pos 1) +ℤ pos (floorMod (pos l -ℤ (low -ℤ pos 1)) 20)
+
 unfoldable pub candidate : ℤ → ℕ → ℤ
-candidate b l = base b +ℤ pos (floorMod (pos l -ℤ base b) 20)
+candidate b l = candidateFrom (lowest b) l
 
 -- A letter's place at a shift, as an odd zone counts it.
 unfoldable pub unshifted : ℕ → ℕ → ℕ

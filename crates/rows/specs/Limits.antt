@@ -6,6 +6,7 @@ use lib.Dec.{eqb}
 use lib.IntN.{ℤ, pos, negsuc}
 use lib.ListN.{getD}
 use Rattle.rows.specs.declared.Limits.{Limits}
+use Rattle.rows.specs.declared.Pair.{Pair}
 
 -- Two rows, l-h.
 abbrev pub l-h : ℕ → ℕ → Limits
@@ -48,3 +49,7 @@ lowest b = limitsOf b .low
 
 abbrev pub highest : ℤ → ℤ
 highest b = limitsOf b .high
+
+-- Limits as the program's table holds them, a byte each.
+abbrev pub pairOf : Limits → Pair
+pairOf l = record { low = l .low; high = l .high }

@@ -1,11 +1,13 @@
 // The 100 km rows that a latitude band and a column allow, and the row that a row letter means.
 ghost use mathlib.Core.Path.{_≡_};
 ghost use Prim.Native.Nat.{_<_};
-ghost use Rattle.rows.specs.Limits.{limitsOf};
-ghost use Rattle.rows.specs.Allowed.{foldColumn, sameSign, foldedCase, within, folded, allowed};
+ghost use lib.IntN.{pos, negsuc, _-ℤ_};
+ghost use lib.Signed.{_≤ℤ_};
+ghost use Rattle.rows.specs.Limits.{pairOf, limitsOf};
+ghost use Rattle.rows.specs.Allowed.{foldColumn, sameSign, foldedCase, between, folded, allowedBy, allowed};
 ghost use Rattle.rows.specs.Letters.{shiftOf, letterOf};
 ghost use Rattle.rows.specs.Resolve.{resolve};
-ghost use Rattle.rows.specs.Direct.{candidate, unshifted};
+ghost use Rattle.rows.specs.Direct.{candidateFrom, unshifted};
 
 // The lowest and the highest row of a band.
 pub struct Limits {
@@ -13,53 +15,67 @@ pub struct Limits {
     pub high: i64,
 }
 
+// The same in a byte each: the table is built where it is read, so it is kept small.
+struct Pair {
+    low: i8,
+    high: i8,
+}
+
 // Bands -10 to 9, C to X.
-const LIMITS: [Limits; 20] = [
-    Limits {
+const LIMITS: [Pair; 20] = [
+    Pair {
         low: -90,
         high: -81,
     },
-    Limits {
+    Pair {
         low: -80,
         high: -72,
     },
-    Limits {
+    Pair {
         low: -71,
         high: -63,
     },
-    Limits {
+    Pair {
         low: -63,
         high: -54,
     },
-    Limits {
+    Pair {
         low: -54,
         high: -45,
     },
-    Limits {
+    Pair {
         low: -45,
         high: -36,
     },
-    Limits {
+    Pair {
         low: -36,
         high: -27,
     },
-    Limits {
+    Pair {
         low: -27,
         high: -18,
     },
-    Limits { low: -18, high: -9 },
-    Limits { low: -9, high: -1 },
-    Limits { low: 0, high: 8 },
-    Limits { low: 8, high: 17 },
-    Limits { low: 17, high: 26 },
-    Limits { low: 26, high: 35 },
-    Limits { low: 35, high: 44 },
-    Limits { low: 44, high: 53 },
-    Limits { low: 53, high: 62 },
-    Limits { low: 62, high: 70 },
-    Limits { low: 71, high: 79 },
-    Limits { low: 80, high: 94 },
+    Pair { low: -18, high: -9 },
+    Pair { low: -9, high: -1 },
+    Pair { low: 0, high: 8 },
+    Pair { low: 8, high: 17 },
+    Pair { low: 17, high: 26 },
+    Pair { low: 26, high: 35 },
+    Pair { low: 35, high: 44 },
+    Pair { low: 44, high: 53 },
+    Pair { low: 53, high: 62 },
+    Pair { low: 62, high: 70 },
+    Pair { low: 71, high: 79 },
+    Pair { low: 80, high: 94 },
 ];
+
+// The k-th band's limits.
+fn pair_at(k: usize) -> Pair
+    requires { ⌜ k < 20 ⌝ }
+    ensures { λ r. ⌜ r ≡ pairOf (limitsOf (pos k -ℤ pos 10)) ⌝ }
+{
+    LIMITS[k]
+}
 
 // The limits of a band; 0 to -1, which hold no row, for a band that does not exist.
 pub fn limits_of(band: i64) -> Limits
@@ -71,14 +87,15 @@ pub fn limits_of(band: i64) -> Limits
     if 9 < band {
         return Limits { low: 0, high: -1 };
     }
-    let k = (band + 10) as usize;
-    LIMITS[k]
+    let pair = pair_at((band + 10) as usize);
+    let low = pair.low as i64;
+    let high = pair.high as i64;
+    Limits { low, high }
 }
 
-fn is_within(band: i64, row: i64) -> bool
-    ensures { λ r. ⌜ r ≡ within band row ⌝ }
+fn is_between(l: Limits, row: i64) -> bool
+    ensures { λ r. ⌜ r ≡ between l row ⌝ }
 {
-    let l = limits_of(band);
     if l.low <= row {
         return row <= l.high;
     }
@@ -151,17 +168,24 @@ fn is_folded(band: i64, column: usize, row: i64) -> bool
     false
 }
 
-// Whether a band and a column index allow a row.
-pub fn is_allowed(band: i64, column: usize, row: i64) -> bool
-    ensures { λ t. ⌜ t ≡ allowed band column row ⌝ }
+// Within a band's limits, or one of the cases.
+fn is_allowed_by(l: Limits, band: i64, column: usize, row: i64) -> bool
+    ensures { λ t. ⌜ t ≡ allowedBy l band column row ⌝ }
 {
     if 7 < column {
         return false;
     }
-    if is_within(band, row) {
+    if is_between(l, row) {
         return true;
     }
     is_folded(band, column, row)
+}
+
+// Whether a band and a column index allow a row.
+pub fn is_allowed(band: i64, column: usize, row: i64) -> bool
+    ensures { λ t. ⌜ t ≡ allowed band column row ⌝ }
+{
+    is_allowed_by(limits_of(band), band, column, row)
 }
 
 // How many places further on the letters of even zones stand.
@@ -194,24 +218,24 @@ pub enum RowAnswer {
 }
 
 // The only row with the letter among the twenty from one below the lowest.
-fn candidate_of(band: i64, letter: usize) -> i64
-    requires { ⌜ letter < 20 ⌝ }
-    ensures { λ r. ⌜ r ≡ candidate band letter ⌝ }
+fn candidate_of(lowest: i64, letter: usize) -> i64
+    requires { ⌜ (negsuc 89 ≤ℤ lowest) × (lowest ≤ℤ pos 90) × (letter < 20) ⌝ }
+    ensures { λ r. ⌜ r ≡ candidateFrom lowest letter ⌝ }
 {
-    let l = limits_of(band);
-    let base = l.low - 1;
+    let base = lowest - 1;
     base + whole::floor_mod(letter as i64 - base, 20) as i64
 }
 
-// The row of a letter in an odd zone.
+// The row of a letter in an odd zone. The limits are looked up once.
 pub fn utm_row(band: i64, column: usize, letter: usize) -> RowAnswer
     ensures { λ a. ⌜ a ≡ resolve 0 band column letter ⌝ }
 {
     if 20 <= letter {
         return RowAnswer::Nothing;
     }
-    let row = candidate_of(band, letter);
-    if is_allowed(band, column, row) {
+    let l = limits_of(band);
+    let row = candidate_of(l.low, letter);
+    if is_allowed_by(l, band, column, row) {
         return RowAnswer::Row(FoundRow { row });
     }
     RowAnswer::Nothing

@@ -8,12 +8,9 @@ use native.Mathlib.Numerals.{add-one}
 use native.Mathlib.Omega.{arith}
 use borrow.Author.Tests.{ltb-false, leb-true}
 use lib.Dec.{ltb, leb}
-use lib.ListN.{length, getD, take, drop, drop-of-length-le}
-use lib.Seq.{drop-cons}
-use Rattle.whole.proofs.Parts.{clash}
-use Rattle.whole.proofs.Powers.{ten-le}
-use Rattle.runs.specs.declared.Run.the-variants.{Number, NotDigits}
-use Rattle.runs.specs.Runs.{isDigit, allDigits, valueFrom, valueOf, leadingDigits, runOf}
+use lib.ListN.{length, getD, take, drop, drop-of-length-le, length-drop}
+use lib.Seq.{drop-cons, take-all}
+use Rattle.runs.specs.Runs.{isDigit, allDigits, valueFrom, valueOf, leadingDigits}
 
 pub and-left : (a b : Bool) → (a && b) ≡ true → a ≡ true
 and-left true b e = refl
@@ -22,6 +19,14 @@ and-left false b e = e
 pub and-right : (a b : Bool) → (a && b) ≡ true → b ≡ true
 and-right true b e = e
 and-right false b e = cc
+
+pub and-false : (a : Bool) → (a && false) ≡ false
+and-false true = refl
+and-false false = refl
+
+pub and-assoc : (a b c : Bool) → (a && (b && c)) ≡ ((a && b) && c)
+and-assoc true b c = refl
+and-assoc false b c = refl
 
 range-by : (x : ℕ) (t : Bool) → ltb x 48 ≡ t → cond t false (leb x 57) ≡ true → (48 ≤ x) × (x ≤ 57)
 range-by x true e h = absurd (omega (arith, leb-true 1 0 h))
@@ -69,37 +74,17 @@ below (d ∷ ds) a t =
     rw (pow-succ' 10 (length ds))
     (omega (arith, below ds (a * 10 + (d - 48)) (all-tail d ds t), mul-le-mul-right (10 ^ length ds) b))
 
+-- a part of a slice that goes to its end
+pub rest : (s : List ℕ) (n : ℕ) → take (length s - n) (drop n s) ≡ drop n s
+rest s n = take-all (length s - n) (drop n s) (omega (arith, length-drop n s))
+
 -- digits in two parts
 pub all-split : (n : ℕ) (ds : List ℕ) → allDigits ds ≡ (allDigits (take n ds) && allDigits (drop n ds))
 unfolding allDigits
 all-split zero ds = refl
 all-split (suc n) [] = refl
-all-split (suc n) (d ∷ ds) = rw (all-split n ds) (assoc (isDigit d) _ _)
-  where
-    assoc : (a b c : Bool) → (a && (b && c)) ≡ ((a && b) && c)
-    assoc true b c = refl
-    assoc false b c = refl
+all-split (suc n) (d ∷ ds) = rw (all-split n ds) (and-assoc (isDigit d) _ _)
 
--- what a run's answer says of its bytes
-no-by : (t : Bool) (v : ℕ) → cond t (Number v) NotDigits ≡ NotDigits → t ≡ false
-no-by true v e = clash (cc)
-no-by false v e = refl
-
-yes-by : (t : Bool) (v w : ℕ) → cond t (Number v) NotDigits ≡ Number w → (t ≡ true) × (w ≡ v)
-yes-by true v w e = (refl, cc)
-yes-by false v w e = clash (cc)
-
-pub run-no : (s : List ℕ) → runOf s ≡ NotDigits → allDigits s ≡ false
-unfolding runOf
-run-no s e = no-by (allDigits s) _ e
-
-pub run-yes : (s : List ℕ) (v : ℕ) → runOf s ≡ Number v → (allDigits s ≡ true) × (v ≡ min 100000000000 (valueOf s))
-unfolding runOf
-run-yes s v e = yes-by (allDigits s) _ v e
-
--- n digits are below 10 to the n, and eleven are not cut
+-- n digits are below 10 to the n
 pub number-lt : (s : List ℕ) → allDigits s ≡ true → valueOf s < 10 ^ length s
 number-lt s t = omega (arith, below s 0 t)
-
-pub uncut : (s : List ℕ) → allDigits s ≡ true → length s ≤ 11 → min 100000000000 (valueOf s) ≡ valueOf s
-uncut s t h = omega (arith, number-lt s t, ten-le (length s) h)

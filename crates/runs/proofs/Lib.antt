@@ -1,3 +1,3 @@
 pub mod Laws
-pub mod Digits
+pub mod Decimals
 pub mod Unique

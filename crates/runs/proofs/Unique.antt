@@ -10,8 +10,10 @@ use Rattle.runs.proofs.has_high as has-high
 use Rattle.runs.proofs.has_high.Reads as has-high-reads
 use Rattle.runs.proofs.lead_of as lead-of
 use Rattle.runs.proofs.lead_of.Reads as lead-of-reads
-use Rattle.runs.proofs.run_of as run-of
-use Rattle.runs.proofs.run_of.Reads as run-of-reads
+use Rattle.runs.proofs.all_digits as all-digits
+use Rattle.runs.proofs.all_digits.Reads as all-digits-reads
+use Rattle.runs.proofs.digits_of as digits-of
+use Rattle.runs.proofs.digits_of.Reads as digits-of-reads
 
 pub is-digit-unique : (κs : Lfts 0) (a : ArgsD is-digit.signature κs) (r r′ : ResD is-digit.signature κs) (s s′ : AtExit is-digit.ended κs) → is-digit-reads.Post κs a r s → is-digit-reads.Post κs a r′ s′ → r ≡ r′
 is-digit-unique κs a r r′ s s′ p q = p ∙ sym q
@@ -22,5 +24,8 @@ has-high-unique κs a r r′ s s′ p q = p ∙ sym q
 pub lead-of-unique : (κs : Lfts 1) (a : ArgsD lead-of.signature κs) (r r′ : ResD lead-of.signature κs) (s s′ : AtExit lead-of.ended κs) → lead-of-reads.Post κs a r s → lead-of-reads.Post κs a r′ s′ → r ≡ r′
 lead-of-unique κs a r r′ s s′ p q = p ∙ sym q
 
-pub run-of-unique : (κs : Lfts 1) (a : ArgsD run-of.signature κs) (r r′ : ResD run-of.signature κs) (s s′ : AtExit run-of.ended κs) → run-of-reads.Post κs a r s → run-of-reads.Post κs a r′ s′ → r ≡ r′
-run-of-unique κs a r r′ s s′ p q = p ∙ sym q
+pub all-digits-unique : (κs : Lfts 1) (a : ArgsD all-digits.signature κs) (r r′ : ResD all-digits.signature κs) (s s′ : AtExit all-digits.ended κs) → all-digits-reads.Post κs a r s → all-digits-reads.Post κs a r′ s′ → r ≡ r′
+all-digits-unique κs a r r′ s s′ p q = p ∙ sym q
+
+pub digits-of-unique : (κs : Lfts 1) (a : ArgsD digits-of.signature κs) (r r′ : ResD digits-of.signature κs) (s s′ : AtExit digits-of.ended κs) → digits-of-reads.Post κs a r s → digits-of-reads.Post κs a r′ s′ → r ≡ r′
+digits-of-unique κs a r r′ s s′ p q = p ∙ sym q

@@ -6,8 +6,6 @@ use Prim.Native.Char.{code}
 use lib.Dec.{ltb, leb}
 use lib.ListN.{length}
 use Rattle.runs.specs.declared.Lead.{Lead}
-use Rattle.runs.specs.declared.Run.{Run}
-use Rattle.runs.specs.declared.Run.the-variants.{Number, NotDigits}
 
 -- "a byte of 128 or more"
 abbrev pub high : ℕ → Bool
@@ -44,10 +42,6 @@ leadingDigits (b ∷ bs) = cond (isDigit b) (b ∷ leadingDigits bs) []
 -- Their number and "their value", cut to 61: what is more is "not 1..60" all the same.
 unfoldable pub leadOf : List ℕ → Lead
 leadOf s = record { count = length (leadingDigits s); value = min 61 (valueOf (leadingDigits s)) }
-
--- A run of bytes as a number, cut to 10^11, which eleven digits do not reach.
-unfoldable pub runOf : List ℕ → Run
-runOf s = cond (allDigits s) (Number (min 100000000000 (valueOf s))) NotDigits
 
 -- The last n digits of a number, zeros in front where it has fewer.
 unfoldable pub lastDigits : ℕ → ℕ → List ℕ

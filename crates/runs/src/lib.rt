@@ -1,9 +1,11 @@
-// What stands in a text, byte by byte: high bytes, digits, the digits that lead, a run of digits as a number.
+// What stands in a text, byte by byte: high bytes, digits, the digits that lead, the two numbers that digits halve into.
 // Every call takes any slice and looks at each of its bytes once.
 ghost use mathlib.Core.Path.{_≡_};
 ghost use mathlib.Core.Bool.{true};
-ghost use Prim.Native.Nat.{_+_, _-_, _*_, _≤_, min};
-ghost use Rattle.runs.specs.Runs.{isDigit, high, hasHigh, valueOf, leadOf, runOf};
+ghost use Prim.Native.Nat.{_+_, _-_, _*_, _≤_, _<_, min};
+ghost use lib.ListN.{length};
+ghost use Rattle.runs.specs.Runs.{isDigit, allDigits, hasHigh, valueOf, leadOf};
+ghost use Rattle.runs.specs.Digits.{noHalves, pairOf, digitsOf};
 
 // 0 to 9.
 pub fn is_digit(b: u8) -> bool
@@ -15,31 +17,34 @@ pub fn is_digit(b: u8) -> bool
     b <= b'9'
 }
 
-fn is_high(b: u8) -> bool
-    ensures { λ r. ⌜ r ≡ high b ⌝ }
-{
-    128 <= b
-}
-
-// Whether a byte of 128 or more stands anywhere. It goes to the end in any case: a pass with no exit is the faster one.
+// Whether a byte of 128 or more stands anywhere: whether all bytes together, bit by bit, have the bit of 128. It goes to the
+// end in any case: a pass with no exit is the faster one.
 pub fn has_high(s: &[u8]) -> bool
     ensures { λ r. ⌜ r ≡ hasHigh (now (s .entry)) ⌝ }
 {
-    let mut found = false;
+    let mut all: u8 = 0;
     let mut i = 0;
     while i < s.len() {
-        found = found | is_high(s[i]);
+        all = all | s[i];
         i += 1;
     }
-    found
+    128 <= all
 }
 
-// The number v followed by a digit, or the limit where that is more: a number of any length never wraps.
+// The number v followed by a digit. Eleven digits never wrap.
+fn then_digit(v: u64, digit: u8) -> u64
+    requires { ⌜ (v < 100000000000) × (isDigit digit ≡ true) ⌝ }
+    ensures { λ r. ⌜ r ≡ v * 10 + (digit - 48) ⌝ }
+{
+    v * 10 + (digit - b'0') as u64
+}
+
+// The same, or the limit where that is more: a number of any length never wraps.
 fn followed_by(limit: u64, v: u64, digit: u8) -> u64
-    requires { ⌜ (limit ≤ 100000000000) × (v ≤ limit) × (isDigit digit ≡ true) ⌝ }
+    requires { ⌜ (limit < 100000000000) × (v ≤ limit) × (isDigit digit ≡ true) ⌝ }
     ensures { λ r. ⌜ r ≡ min limit (v * 10 + (digit - 48)) ⌝ }
 {
-    let w = v * 10 + (digit - b'0') as u64;
+    let w = then_digit(v, digit);
     if limit < w {
         return limit;
     }
@@ -68,25 +73,83 @@ pub fn lead_of(s: &[u8]) -> Lead
     Lead { count, value }
 }
 
-// What a run of bytes is: a number, or no digits alone.
-pub enum Run {
-    Number(u64),
-    NotDigits,
-}
+// ---- 11, 12, 13: the digits of both axes
 
-// The number that the bytes spell, 100,000,000,000 where it is more; no bytes spell 0.
-pub fn run_of(s: &[u8]) -> Run
-    ensures { λ r. ⌜ r ≡ runOf (now (s .entry)) ⌝ }
+// Whether every byte is a digit. It goes to the end in any case, like has_high.
+pub fn all_digits(s: &[u8]) -> bool
+    ensures { λ r. ⌜ r ≡ allDigits (now (s .entry)) ⌝ }
 {
-    let mut value: u64 = 0;
+    let mut all = true;
     let mut i = 0;
     while i < s.len() {
-        let b = s[i];
-        if !is_digit(b) {
-            return Run::NotDigits;
-        }
-        value = followed_by(100_000_000_000, value, b);
+        all = all & is_digit(s[i]);
         i += 1;
     }
-    Run::Number(value)
+    all
+}
+
+// Digits of each axis, and the two numbers that they spell.
+pub struct Digits {
+    pub p: i64,
+    pub easting: u64,
+    pub northing: u64,
+}
+
+pub enum DigitsAnswer {
+    Halves(Digits),
+    NoHalves(u64),
+}
+
+// The refusal of bytes that do not halve: 11 comes before it. No number is worked out.
+fn no_halves(s: &[u8], k: u64) -> DigitsAnswer
+    ensures { λ r. ⌜ r ≡ noHalves (now (s .entry)) k ⌝ }
+{
+    if all_digits(s) {
+        return DigitsAnswer::NoHalves(k);
+    }
+    DigitsAnswer::NoHalves(11)
+}
+
+// The two halves, in step: each digit is read once, and neither number waits for the other.
+fn pair_of(a: &[u8], b: &[u8]) -> DigitsAnswer
+    requires { ⌜ (length (now a) ≡ length (now b)) × (length (now a) ≤ 11) ⌝ }
+    ensures { λ r. ⌜ r ≡ pairOf (now (a .entry)) (now (b .entry)) ⌝ }
+{
+    let mut easting: u64 = 0;
+    let mut northing: u64 = 0;
+    let mut i = 0;
+    while i < a.len() {
+        let x = a[i];
+        if !is_digit(x) {
+            return DigitsAnswer::NoHalves(11);
+        }
+        let y = b[i];
+        if !is_digit(y) {
+            return DigitsAnswer::NoHalves(11);
+        }
+        easting = then_digit(easting, x);
+        northing = then_digit(northing, y);
+        i += 1;
+    }
+    let p = a.len() as i64;
+    DigitsAnswer::Halves(Digits {
+        p,
+        easting,
+        northing,
+    })
+}
+
+// What follows the row letter: digits that halve, or the rule by which they do not.
+pub fn digits_of(s: &[u8]) -> DigitsAnswer
+    ensures { λ r. ⌜ r ≡ digitsOf (now (s .entry)) ⌝ }
+{
+    let n = s.len();
+    if n % 2 == 1 {
+        return no_halves(s, 12);
+    }
+    if 22 < n {
+        return no_halves(s, 13);
+    }
+    let half = n / 2;
+    pair_of(&s[..half], &s[half..])
 }

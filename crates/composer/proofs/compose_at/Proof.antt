@@ -12,11 +12,8 @@ use borrow.Author.Needs.{needs}
 use Rattle.composer.proofs.compose_at.Statement.{statement}
 use Rattle.composer.proofs.compose_at.Tie as tie
 
-bands-of-requires : tie.Need-bands-of-requires
-bands-of-requires c κs = search needs
-
-place-of-requires : tie.Need-place-of-requires
-place-of-requires c κs = search needs
+band-place-requires : tie.Need-band-place-requires
+band-place-requires c κs = search needs
 
 enum-known-k : tie.Need-enum-known-k
 enum-known-k c = search needs
@@ -24,10 +21,10 @@ enum-known-k c = search needs
 enum-told : tie.Need-enum-told
 enum-told c = search needs
 
-band : (c : tie.After-place-of) → let s = c .before .before in c .place-of .result ≡ placeOf (bandsOf (s .args .zone)) (s .args .band)
-band c = let e = rw (toZ-ofZ (c .before .before .fits .zone)) at (c .before .bands-of .ensures) in rw e at (c .place-of .ensures)
+band : (c : tie.After-band-place) → let s = c .before in c .band-place .result ≡ placeOf (bandsOf (s .args .zone)) (s .args .band)
+band c = rw (toZ-ofZ (c .before .fits .zone)) at (c .band-place .ensures)
 
-band-at : (c : tie.After-known-told) → let s = c .before .before .before .before .before in placeOf (bandsOf (s .args .zone)) (s .args .band) ≡ At (c .before .k .given .0 .0)
+band-at : (c : tie.After-known-told) → let s = c .before .before .before .before in placeOf (bandsOf (s .args .zone)) (s .args .band) ≡ At (c .before .k .given .0 .0)
 band-at c = sym (band (c .before .before .before)) ∙ c .before .k .given .1
 
 returns : tie.Need-returns
@@ -36,7 +33,7 @@ returns c = let k = sym (band (c .before .before)) ∙ c .enum-told .given .1 in
 
 is-fitting-requires : tie.Need-is-fitting-requires
 is-fitting-requires c κs =
-    let s = c .before .before .before .before .before in
+    let s = c .before .before .before .before in
     let h = s .pre .0 in
     let n = s .fits .n .fits in
     (place-lt _ _ _ (band-at c), omega arith, omega arith)
@@ -46,7 +43,7 @@ unfolding composedAt
 returns-2 c =
     let f = c .before in
     let k = f .before in
-    let s = k .before .before .before .before .before in
+    let s = k .before .before .before .before in
     let e = rw (toZ-ofZ (s .fits .zone)) at (f .is-fitting .ensures) in
     rw (band-at k, ← e, c .if1 .taken)
 
@@ -59,7 +56,7 @@ returns-3 c =
     let t = c .before in
     let f = t .before in
     let k = f .before in
-    let s = k .before .before .before .before .before in
+    let s = k .before .before .before .before in
     let e = rw (toZ-ofZ (s .fits .zone)) at (f .is-fitting .ensures) in
     let m = rw (toZ-ofZ (s .fits .zone), toZ-ofZ (s .fits .p)) at (c .made-of .ensures) in
     rw (band-at k, ← e, t .if1 .left, m)
@@ -68,8 +65,7 @@ pub compose-at-spec : {M : Type 1} → statement M
 compose-at-spec =
     tie.close
     (tie.spec
-    bands-of-requires
-    place-of-requires
+    band-place-requires
     enum-known-k
     enum-told
     returns

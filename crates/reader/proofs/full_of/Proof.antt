@@ -8,9 +8,9 @@ use mir.Facts.{toZ-ofZ}
 use Rattle.reader.specs.declared.BlockAnswer.the-variants.{Block}
 use Rattle.reader.specs.Head.{letterIn}
 use Rattle.reader.specs.Block.{blockOf}
-use Rattle.reader.specs.Digits.{digitsOf}
+use Rattle.runs.specs.Digits.{digitsOf}
 use Rattle.reader.specs.Read.{fullOf}
-use Rattle.reader.proofs.Stages.{rest}
+use Rattle.runs.proofs.Laws.{rest}
 use Rattle.reader.proofs.full_of.Statement.{statement}
 use Rattle.reader.proofs.full_of.Tie as tie
 

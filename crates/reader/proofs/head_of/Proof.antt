@@ -126,11 +126,8 @@ shared-slice-read-capital c = search needs
 capital-requires : tie.Need-capital-requires
 capital-requires c κs = search needs
 
-bands-of-requires : tie.Need-bands-of-requires
-bands-of-requires c κs = search needs
-
-place-of-requires : tie.Need-place-of-requires
-place-of-requires c κs = search needs
+band-place-requires : tie.Need-band-place-requires
+band-place-requires c κs = search needs
 
 enum-known-place : tie.Need-enum-known-place
 enum-known-place c = search needs
@@ -149,17 +146,15 @@ zone c =
 band : (c : tie.After-capital) → let s = c .before .before .before .before .before .before .before .before .before .before .before .before .before in c .capital .result ≡ letterIn (s .args .s .now) (leadOf (s .args .s .now) .count)
 band c = rw (c .before .before .before .before .before .before .before .lead-of .ensures) at (c .capital .ensures)
 
-place-is : (c : tie.After-place-of) → let s = c .before .before .before .before .before .before .before .before .before .before .before .before .before .before .before in c .place-of .result ≡ place (s .args .s .now)
+place-is : (c : tie.After-band-place) → let s = c .before .before .before .before .before .before .before .before .before .before .before .before .before .before in c .band-place .result ≡ place (s .args .s .now)
 place-is c =
-    let b = c .before in
-    let a = b .before in
-    let k = rw (zone (a .before .before)) at (b .bands-of .ensures) in
-    rw (k, band a) at (c .place-of .ensures)
+    let a = c .before in
+    rw (zone (a .before .before), band a) at (c .band-place .ensures)
 
 returns-6 : tie.Need-returns-6
 returns-6 c =
     let p = c .before .before in
-    let m = p .before .before .before .before .before in
+    let m = p .before .before .before .before in
     let f = m .before in
     let r = f .before in
     let l = r .before .before in
@@ -173,7 +168,7 @@ add-next c = search needs
 returns-7 : tie.Need-returns-7
 returns-7 c =
     let p = c .before .before .before in
-    let a = p .before .before in
+    let a = p .before in
     let m = a .before .before .before in
     let f = m .before in
     let r = f .before in
@@ -198,8 +193,7 @@ head-of-spec =
     cast-zone
     shared-slice-read-capital
     capital-requires
-    bands-of-requires
-    place-of-requires
+    band-place-requires
     enum-known-place
     enum-told
     returns-6

@@ -11,7 +11,8 @@ use Rattle.reader.specs.declared.HeadAnswer.the-variants.{Start}
 use Rattle.reader.specs.Head.{headOf}
 use Rattle.reader.specs.Read.{readOf}
 use Rattle.letters.proofs.Places.{place-lt}
-use Rattle.reader.proofs.Stages.{began, rest}
+use Rattle.runs.proofs.Laws.{rest}
+use Rattle.reader.proofs.Stages.{began}
 use Rattle.reader.proofs.read.Statement.{statement}
 use Rattle.reader.proofs.read.Tie as tie
 

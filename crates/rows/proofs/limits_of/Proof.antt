@@ -1,19 +1,20 @@
--- `rows::limits_of` meets its contract: the table is the list of the limits, by computation.
+-- `rows::limits_of` meets its contract: the band's line in the table, and none outside it.
 -- Assumes nothing.
 use mathlib.Core.Path.{_≡_, refl, sym, ap, _∙_}
 use mathlib.Core.Bool.{true, false}
 use Prim.Native.Nat.{ℕ, _<_}
 use native.Mathlib.Omega.{arith}
 use lib.IntN.{ℤ, pos, negsuc, natAbs, _+ℤ_, _-ℤ_}
-use mir.Syntax.{w64}
+use lib.Dec.{lit<, lit≤}
+use mir.Syntax.{w8, w64}
 use mir.Val.{SFits, toZ, ofZ}
 use mir.Facts.{toZ-ofZ}
 use lib.Signed.{ltZ}
-use Rattle.whole.proofs.Parts.{up, dn, eq-by, lt-yes, lt-no, add-parts, sub-parts}
+use Rattle.whole.proofs.Parts.{up, dn, eq-by, lt-yes, lt-no, add-parts, sub-parts, sfits-by}
+use Rattle.whole.proofs.Small.{Small, fits}
 use Rattle.whole.proofs.Signed.{is-count}
-use Rattle.whole.proofs.Table.{row}
-use Rattle.rows.specs.Limits.{limitsOf, noRows}
-use Rattle.rows.proofs.Near.{past}
+use Rattle.rows.specs.Limits.{limitsOf, noRows, pairOf, lowest, highest}
+use Rattle.rows.proofs.Near.{past, limits-ranged}
 use Rattle.rows.proofs.limits_of.Statement.{statement}
 use Rattle.rows.proofs.limits_of.Tie as tie
 
@@ -67,26 +68,44 @@ returns c = below (c .before .args .band) (rw (toZ-ofZ (c .before .fits .band)) 
 returns-2 : tie.Need-returns-2
 returns-2 c = let s = c .before .before in above (s .args .band) (rw (toZ-ofZ (s .fits .band)) at (c .if2 .taken))
 
-add-k : tie.Need-add-k
-add-k c = rw (sum c) (wide (the-line c .k) (the-line c .small))
+add-pair-at : tie.Need-add-pair-at
+add-pair-at c = rw (sum c) (wide (the-line c .k) (the-line c .small))
 
-cast-k : tie.Need-cast-k
-cast-k c =
+cast-pair-at : tie.Need-cast-pair-at
+cast-pair-at c =
     let l = the-line c in
     let h = l .small in
     rw (sum c, toZ-ofZ (wide (l .k) h)) (tt, record { fits = omega arith })
 
-mul-result : tie.Need-mul-result
-mul-result c = let h = the-line c .small in rw (index c) (record { fits = omega arith })
+pair-at-requires : tie.Need-pair-at-requires
+pair-at-requires c κs = rw (index c) (the-line c .small)
 
-array-copy-out-result : tie.Need-array-copy-out-result
-array-copy-out-result c = rw (index c) (the-line c .small)
+-- the band's line, and its two rows as they are read back from a byte
+is-pair : (c : tie.After-pair-at) → c .pair-at .result ≡ pairOf (limitsOf (c .before .before .before .args .band))
+is-pair c =
+    let e = c .before in
+    (rw (index e) at (c .pair-at .ensures)) ∙ ap (λ (b : ℤ). pairOf (limitsOf b)) (the-line e .back)
+
+byte : {m : ℕ} (z : ℤ) → Small m z → m < 128 → toZ w8 (ofZ w8 z) ≡ z
+byte z s h = let a = s .least in let b = s .most in toZ-ofZ (sfits-by w8 z (omega arith) (omega arith))
+
+low : (c : tie.After-pair-at) → toZ w8 (ofZ w8 (c .pair-at .result .low)) ≡ lowest (c .before .before .before .args .band)
+low c = let b = c .before .before .before .args .band in rw (is-pair c) (byte (lowest b) (limits-ranged b .low) (lit< tt))
+
+high : (c : tie.After-pair-at) → toZ w8 (ofZ w8 (c .pair-at .result .high)) ≡ highest (c .before .before .before .args .band)
+high c = let b = c .before .before .before .args .band in rw (is-pair c) (byte (highest b) (limits-ranged b .high) (lit< tt))
+
+cast-low : tie.Need-cast-low
+cast-low c = let p = c .before .before in rw (low p) (fits (limits-ranged (p .before .before .before .args .band) .low) (lit≤ tt))
+
+cast-high : tie.Need-cast-high
+cast-high c = let p = c .before .before .before .before in rw (high p) (fits (limits-ranged (p .before .before .before .args .band) .high) (lit≤ tt))
 
 returns-3 : tie.Need-returns-3
-unfolding limitsOf
 returns-3 c =
-    let e = c .before in
-    rw (index e) (row (λ k. limitsOf (pos k -ℤ pos 10)) _ 20 refl _ (the-line e .k) (the-line e .small) ∙ ap limitsOf (the-line e .back))
+    let p = c .before .before .before .before in
+    let r = limits-ranged (p .before .before .before .args .band) in
+    rw (low p, high p, toZ-ofZ (fits (r .low) (lit≤ tt)), toZ-ofZ (fits (r .high) (lit≤ tt)))
 
 pub limits-of-spec : {M : Type 1} → statement M
-limits-of-spec = tie.close (tie.spec returns returns-2 add-k cast-k mul-result array-copy-out-result returns-3)
+limits-of-spec = tie.close (tie.spec returns returns-2 add-pair-at cast-pair-at pair-at-requires cast-low cast-high returns-3)

@@ -1,0 +1,68 @@
+-- `letters::row_place` meets its contract: the runs are those of the grid's sets.
+-- Assumes nothing.
+use mathlib.Core.Path.{_≡_, refl, sym, _∙_}
+use mathlib.Core.Bool.{Bool, true, false, cond}
+use Prim.Native.Nat.{ℕ}
+use mir.Facts.{toZ-ofZ}
+use borrow.Author.Needs.{needs}
+use Rattle.letters.specs.declared.LetterSet.the-variants.{UtmRows, UpsRowsNorth, UpsRowsSouth}
+use Rattle.letters.specs.declared.Grid.the-variants.{Utm}
+use Rattle.letters.specs.Letters.{placeFrom, placeOf}
+use Rattle.letters.specs.Sets.{gridOf, rowsOf}
+use Rattle.letters.specs.Tables.{placeIn, runOf}
+use Rattle.letters.proofs.Runs.{run-place}
+use Rattle.letters.proofs.row_place.Statement.{statement}
+use Rattle.letters.proofs.row_place.Tie as tie
+
+grid : (c : tie.After-grid-of) → c .grid-of .result ≡ gridOf (c .before .args .zone)
+grid c = rw (toZ-ofZ (c .before .fits .zone)) at (c .grid-of .ensures)
+
+grid-of-requires : tie.Need-grid-of-requires
+grid-of-requires c κs = search needs
+
+enum-told : tie.Need-enum-told
+enum-told c = search needs
+
+enum-told-2 : tie.Need-enum-told-2
+enum-told-2 c = search needs
+
+enum-told-3 : tie.Need-enum-told-3
+enum-told-3 c = search needs
+
+place-in-requires : tie.Need-place-in-requires
+place-in-requires c κs = search needs
+
+place-in-requires-2 : tie.Need-place-in-requires-2
+place-in-requires-2 c κs = search needs
+
+ups-rows-requires : tie.Need-ups-rows-requires
+ups-rows-requires c κs = search needs
+
+returns : tie.Need-returns
+unfolding rowsOf runOf
+returns c =
+    let t = c .before in
+    let k = sym (grid (t .before .before)) ∙ t .enum-told .given .1 in
+    rw k (c .place-in .ensures ∙ run-place UtmRows (t .before .before .before .args .letter))
+
+-- both hemispheres begin at A
+both : (north : Bool) (b : ℕ) → placeIn 0 97 (cond north 14 24) b ≡ placeOf (cond north UpsRowsNorth UpsRowsSouth) b
+unfolding runOf
+both true b = run-place UpsRowsNorth b
+both false b = run-place UpsRowsSouth b
+
+returns-2 : tie.Need-returns-2
+unfolding rowsOf
+returns-2 c =
+    let u = c .before in
+    let t = u .before in
+    let s = t .before .before .before in
+    let k = sym (grid (t .before .before)) ∙ t .enum-told2 .given .1 in
+    rw k ((rw (u .ups-rows .ensures) at (c .place-in2 .ensures)) ∙ both (s .args .north) (s .args .letter))
+
+returns-3 : tie.Need-returns-3
+unfolding rowsOf placeOf placeFrom
+returns-3 c = let k = sym (grid (c .before .before)) ∙ c .enum-told3 .given .1 in rw k
+
+pub row-place-spec : {M : Type 1} → statement M
+row-place-spec = tie.close (tie.spec grid-of-requires enum-told place-in-requires enum-told-2 ups-rows-requires place-in-requires-2 enum-told-3 returns returns-2 returns-3)
