@@ -1,0 +1,4 @@
+pub mod Refusals
+mod Room
+pub mod Signs
+pub mod Unique
