@@ -1,5 +1,6 @@
 //! Questions to the Rust, each written with its answer as one line: what the program `vectors` reads.
 //! Lengths are whole units of half a micrometre; the Rust gets them as f64 metres, rounded once.
+use crate::numbers::{range_number, reading_number};
 use geoconvert::mgrs::doors;
 use geoconvert::utm::doors as utm_doors;
 use geoconvert::{Error, Mgrs, UtmUps};
@@ -37,29 +38,6 @@ fn metres(units: i64) -> f64 {
 
 fn side(north: bool) -> char {
     if north { 'N' } else { 'S' }
-}
-
-/// The refusal that a message of the reader stands for.
-fn reading_number(message: &str) -> u32 {
-    const STARTS: [&str; 13] = [
-        "String contains unicode characters", "Starts with 'INV'", "Zone ", "More than 2 digits at start", "Too short: ",
-        "Band letter ", "Missing row letter", "Column letter ", "Row letter ", "Block ", "Encountered a non-digit",
-        "Not an even number of digits", "More than 22 digits",
-    ];
-    match STARTS.iter().position(|s| message.starts_with(s)) {
-        Some(place) => place as u32 + 1,
-        None => panic!("the Rust has a message that no rule has: {message}"),
-    }
-}
-
-/// The refusal that an error of a range test stands for.
-fn range_number(error: &Error) -> u32 {
-    match error {
-        Error::InvalidZone(_) => 14,
-        Error::InvalidMgrs(s) | Error::InvalidUtmCoords(s) if s.starts_with("Easting ") => 16,
-        Error::InvalidMgrs(s) | Error::InvalidUtmCoords(s) if s.starts_with("Northing ") => 17,
-        other => panic!("the Rust has an error that no rule has: {other:?}"),
-    }
 }
 
 /// The leading digits and what follows the row letter are few enough for the compared domain.

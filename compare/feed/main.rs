@@ -3,6 +3,7 @@
 mod ask;
 mod degrees;
 mod list;
+mod numbers;
 mod parted;
 mod points;
 mod rng;

@@ -5,6 +5,7 @@ pub trait Integer {
 }
 
 impl Integer for i32 {
+    #[inline]
     fn is_odd(&self) -> bool {
         self % 2 != 0
     }
