@@ -11,7 +11,7 @@ use lib.Seq.{sets, sets-eq, set-comm}
 use lib.Signed.{ltZ}
 use Rattle.whole.specs.Floor.{fold}
 use Rattle.runs.specs.Runs.{lastDigits}
-use Rattle.runs.proofs.Digits.{digits-length}
+use Rattle.runs.proofs.Decimals.{digits-length}
 use Rattle.position.specs.declared.Parts.{Parts}
 use Rattle.writer.specs.declared.Written.the-variants.{Length, Refused}
 use Rattle.writer.specs.Text.{headText, headLength, blockText, fullText}
