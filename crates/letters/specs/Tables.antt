@@ -10,6 +10,7 @@ use Rattle.letters.specs.declared.LetterSet.{LetterSet}
 use Rattle.letters.specs.declared.LetterSet.the-variants.{NoLetters, UtmBands, UpsBands, UtmColumns0, UtmColumns1, UtmColumns2, UtmRows, UpsColumnsA, UpsColumnsB, UpsColumnsY, UpsColumnsZ, UpsRowsSouth, UpsRowsNorth}
 use Rattle.letters.specs.declared.Place.{Place}
 use Rattle.letters.specs.declared.Place.the-variants.{At, NotInSet}
+use Rattle.letters.specs.declared.Run.{Run}
 use Rattle.letters.specs.Letters.{placeFrom}
 
 -- The alphabets that the sets are runs of: all letters but I and O, those of the UPS columns, the UPS bands.
@@ -35,11 +36,6 @@ placeIn n first count b =
     cond (ltb b (code "A")) NotInSet (cond (ltb (code "Z") b) NotInSet (inRun (codeIn n (b - code "A")) first count))
 
 -- A set as a run: its alphabet, the code of its first letter there, and how many letters it has.
-pub record Run : Type 0 where
-  pub alphabet : ℕ
-  pub first : ℕ
-  pub count : ℕ
-
 abbrev pub run : ℕ → ℕ → ℕ → Run
 run alphabet first count = record { alphabet = alphabet; first = first; count = count }
 

@@ -77,66 +77,82 @@ pub fn capital(b: u8) -> u8
     b - 32
 }
 
-// The alphabet that a set is a run of.
-fn alphabet_of(set: LetterSet) -> u8
-    ensures { λ r. ⌜ r ≡ runOf set .alphabet ⌝ }
-{
-    match set {
-        LetterSet::NoLetters => 1,
-        LetterSet::UtmBands => 0,
-        LetterSet::UpsBands => 2,
-        LetterSet::UtmColumns0 => 0,
-        LetterSet::UtmColumns1 => 0,
-        LetterSet::UtmColumns2 => 0,
-        LetterSet::UtmRows => 0,
-        LetterSet::UpsColumnsA => 1,
-        LetterSet::UpsColumnsB => 1,
-        LetterSet::UpsColumnsY => 1,
-        LetterSet::UpsColumnsZ => 1,
-        LetterSet::UpsRowsSouth => 0,
-        LetterSet::UpsRowsNorth => 0,
-    }
+// A set as a run: its alphabet, 0 to 2, the code of its first letter there, and how many letters it has.
+struct Run {
+    alphabet: u8,
+    first: u8,
+    count: u8,
 }
 
-// The code of the set's first letter there.
-fn first_code(set: LetterSet) -> u8
-    ensures { λ r. ⌜ r ≡ runOf set .first ⌝ }
+fn run_of(set: LetterSet) -> Run
+    ensures { λ r. ⌜ r ≡ runOf set ⌝ }
 {
     match set {
-        LetterSet::NoLetters => b'a',
-        LetterSet::UtmBands => b'c',
-        LetterSet::UpsBands => b'a',
-        LetterSet::UtmColumns0 => b'a',
-        LetterSet::UtmColumns1 => b'i',
-        LetterSet::UtmColumns2 => b'q',
-        LetterSet::UtmRows => b'a',
-        LetterSet::UpsColumnsA => b'g',
-        LetterSet::UpsColumnsB => b'a',
-        LetterSet::UpsColumnsY => b'l',
-        LetterSet::UpsColumnsZ => b'a',
-        LetterSet::UpsRowsSouth => b'a',
-        LetterSet::UpsRowsNorth => b'a',
-    }
-}
-
-// How many letters the set has.
-fn letter_count(set: LetterSet) -> u8
-    ensures { λ r. ⌜ r ≡ runOf set .count ⌝ }
-{
-    match set {
-        LetterSet::NoLetters => 0,
-        LetterSet::UtmBands => 20,
-        LetterSet::UpsBands => 4,
-        LetterSet::UtmColumns0 => 8,
-        LetterSet::UtmColumns1 => 8,
-        LetterSet::UtmColumns2 => 8,
-        LetterSet::UtmRows => 20,
-        LetterSet::UpsColumnsA => 12,
-        LetterSet::UpsColumnsB => 12,
-        LetterSet::UpsColumnsY => 7,
-        LetterSet::UpsColumnsZ => 7,
-        LetterSet::UpsRowsSouth => 24,
-        LetterSet::UpsRowsNorth => 14,
+        LetterSet::NoLetters => Run {
+            alphabet: 1,
+            first: b'a',
+            count: 0,
+        },
+        LetterSet::UtmBands => Run {
+            alphabet: 0,
+            first: b'c',
+            count: 20,
+        },
+        LetterSet::UpsBands => Run {
+            alphabet: 2,
+            first: b'a',
+            count: 4,
+        },
+        LetterSet::UtmColumns0 => Run {
+            alphabet: 0,
+            first: b'a',
+            count: 8,
+        },
+        LetterSet::UtmColumns1 => Run {
+            alphabet: 0,
+            first: b'i',
+            count: 8,
+        },
+        LetterSet::UtmColumns2 => Run {
+            alphabet: 0,
+            first: b'q',
+            count: 8,
+        },
+        LetterSet::UtmRows => Run {
+            alphabet: 0,
+            first: b'a',
+            count: 20,
+        },
+        LetterSet::UpsColumnsA => Run {
+            alphabet: 1,
+            first: b'g',
+            count: 12,
+        },
+        LetterSet::UpsColumnsB => Run {
+            alphabet: 1,
+            first: b'a',
+            count: 12,
+        },
+        LetterSet::UpsColumnsY => Run {
+            alphabet: 1,
+            first: b'l',
+            count: 7,
+        },
+        LetterSet::UpsColumnsZ => Run {
+            alphabet: 1,
+            first: b'a',
+            count: 7,
+        },
+        LetterSet::UpsRowsSouth => Run {
+            alphabet: 0,
+            first: b'a',
+            count: 24,
+        },
+        LetterSet::UpsRowsNorth => Run {
+            alphabet: 0,
+            first: b'a',
+            count: 14,
+        },
     }
 }
 
@@ -184,7 +200,8 @@ fn place_in(alphabet: u8, first: u8, count: u8, letter: u8) -> Place
 pub fn place_of(set: LetterSet, letter: u8) -> Place
     ensures { λ r. ⌜ r ≡ placeOf set letter ⌝ }
 {
-    place_in(alphabet_of(set), first_code(set), letter_count(set), letter)
+    let run = run_of(set);
+    place_in(run.alphabet, run.first, run.count, letter)
 }
 
 // What the set's table holds at a place.

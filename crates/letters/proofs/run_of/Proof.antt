@@ -1,9 +1,9 @@
--- `letters::alphabet_of` meets its contract, case by case.
+-- `letters::run_of` meets its contract, case by case.
 -- Assumes nothing.
 use borrow.Author.Needs.{needs}
 use Rattle.letters.specs.Tables.{runOf}
-use Rattle.letters.proofs.alphabet_of.Statement.{statement}
-use Rattle.letters.proofs.alphabet_of.Tie as tie
+use Rattle.letters.proofs.run_of.Statement.{statement}
+use Rattle.letters.proofs.run_of.Tie as tie
 
 enum-told : tie.Need-enum-told
 enum-told c = search needs
@@ -96,8 +96,8 @@ returns-13 : tie.Need-returns-13
 unfolding runOf
 returns-13 c = rw (c .enum-told13 .given .1)
 
-pub alphabet-of-spec : {M : Type 1} → statement M
-alphabet-of-spec =
+pub run-of-spec : {M : Type 1} → statement M
+run-of-spec =
     tie.close
     (tie.spec
     enum-told
