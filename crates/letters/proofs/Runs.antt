@@ -1,10 +1,11 @@
 -- A place in a set's run is the place in the set: one computation over all sets and letters. Assumes nothing.
 use mathlib.Core.Path.{_≡_, refl, sym, ap, _∙_}
-use mathlib.Core.Bool.{Bool, true, false, cond}
-use Prim.Native.Nat.{ℕ, _+_, _-_, _<_}
+use mathlib.Core.Bool.{Bool, true, false, cond, _&&_}
+use Prim.Native.Nat.{ℕ, _+_, _-_, _≤_, _<_}
 use native.Mathlib.Omega.{arith}
-use borrow.Author.Tests.{ltb-true, ltb-false}
-use lib.Dec.{T, eqb, ltb, eqb→eq}
+use borrow.Author.Tests.{ltb-true, ltb-false, ne-eqb}
+use lib.Dec.{T, eqb, leb, ltb, eqb→eq, leb→le}
+use mir.Facts.{and-yes}
 use Rattle.whole.proofs.Table.{all, each}
 use Rattle.letters.specs.declared.LetterSet.{LetterSet}
 use Rattle.letters.specs.declared.Place.{Place}
@@ -57,6 +58,19 @@ pub run-place : (set : LetterSet) (b : ℕ) → placeIn (runOf set .alphabet) (r
 unfolding placeIn
 run-place set b = by-tests set b (ltb b 65) (ltb 90 b) refl refl
 
+-- every run begins among the small letters, and has 24 letters at most
+abbrev small : LetterSet → Bool
+small set = leb (runOf set .first) 122 && leb (runOf set .count) 24
+
+all-small : T (all 13 (λ n. small (setAt n)))
+unfolding runOf
+all-small = tt
+
+pub run-small : (set : LetterSet) → (runOf set .first ≤ 122) × (runOf set .count ≤ 24)
+run-small set =
+    let h = and-yes (leb (runOf set .first) 122) (leb (runOf set .count) 24) (for-all small all-small set) in
+    (leb→le _ _ (h .0), leb→le _ _ (h .1))
+
 -- the columns of all UTM zones are runs of one alphabet and of eight, those of UPS runs of another
 utm-by : (t u : Bool) → let set = cond t (setAt 3) (cond u (setAt 4) (setAt 5)) in (runOf set .alphabet ≡ 0) × (runOf set .count ≡ 8)
 unfolding runOf
@@ -79,3 +93,9 @@ ups-by false false false false = refl
 pub ups-run : (b : ℕ) → runOf (upsColumns b) .alphabet ≡ 1
 unfolding upsColumns
 ups-run b = ups-by (eqb b 65) (eqb b 66) (eqb b 89) (eqb b 90)
+
+-- a byte outside A to Z is no UPS band
+pub no-columns : (b : ℕ) → (65 ≤ b → b ≤ 90 → ⊥) → upsColumns b ≡ setAt 0
+unfolding upsColumns
+no-columns b n =
+    rw (ne-eqb b 65 (λ e. n (omega arith) (omega arith)), ne-eqb b 66 (λ e. n (omega arith) (omega arith)), ne-eqb b 89 (λ e. n (omega arith) (omega arith)), ne-eqb b 90 (λ e. n (omega arith) (omega arith)))

@@ -30,6 +30,10 @@ use Rattle.letters.proofs.column_place as column-place
 use Rattle.letters.proofs.column_place.Reads as column-place-reads
 use Rattle.letters.proofs.row_place as row-place
 use Rattle.letters.proofs.row_place.Reads as row-place-reads
+use Rattle.letters.proofs.first_column as first-column
+use Rattle.letters.proofs.first_column.Reads as first-column-reads
+use Rattle.letters.proofs.first_row as first-row
+use Rattle.letters.proofs.first_row.Reads as first-row-reads
 
 pub capital-unique : (κs : Lfts 0) (a : ArgsD capital.signature κs) (r r′ : ResD capital.signature κs) (s s′ : AtExit capital.ended κs) → capital-reads.Post κs a r s → capital-reads.Post κs a r′ s′ → r ≡ r′
 capital-unique κs a r r′ s s′ p q = p ∙ sym q
@@ -69,3 +73,9 @@ column-place-unique κs a r r′ s s′ p q = p ∙ sym q
 
 pub row-place-unique : (κs : Lfts 0) (a : ArgsD row-place.signature κs) (r r′ : ResD row-place.signature κs) (s s′ : AtExit row-place.ended κs) → row-place-reads.Post κs a r s → row-place-reads.Post κs a r′ s′ → r ≡ r′
 row-place-unique κs a r r′ s s′ p q = p ∙ sym q
+
+pub first-column-unique : (κs : Lfts 0) (a : ArgsD first-column.signature κs) (r r′ : ResD first-column.signature κs) (s s′ : AtExit first-column.ended κs) → first-column-reads.Post κs a r s → first-column-reads.Post κs a r′ s′ → r ≡ r′
+first-column-unique κs a r r′ s s′ p q = p ∙ sym q
+
+pub first-row-unique : (κs : Lfts 0) (a : ArgsD first-row.signature κs) (r r′ : ResD first-row.signature κs) (s s′ : AtExit first-row.ended κs) → first-row-reads.Post κs a r s → first-row-reads.Post κs a r′ s′ → r ≡ r′
+first-row-unique κs a r r′ s s′ p q = p ∙ sym q

@@ -4,7 +4,7 @@ ghost use mathlib.Core.Bool.{cond};
 ghost use Rattle.letters.specs.Letters.{capitalOf, placeOf, letterAt, firstTile};
 ghost use Rattle.letters.specs.Sets.{gridOf, bandsOf, utmColumns, upsColumns, columnsOf, rowsOf, northBand, eastBand};
 ghost use Rattle.letters.specs.Tables.{runOf, codeIn, inRun, placeIn};
-ghost use Prim.Native.Nat.{_<_};
+ghost use Prim.Native.Nat.{_<_, _≤_};
 
 // The twelve sets, and one for zones and bands that do not exist.
 pub enum LetterSet {
@@ -168,15 +168,13 @@ fn code_in(alphabet: u8, index: usize) -> u8
     }
 }
 
-// The place in a run; a dot comes before all codes.
+// The place in a run. One test serves both ends: what comes before the first, as a dot does, is turned to the end of the byte.
 fn in_run(code: u8, first: u8, count: u8) -> Place
+    requires { ⌜ (first ≤ 122) × (count ≤ 24) ⌝ }
     ensures { λ r. ⌜ r ≡ inRun code first count ⌝ }
 {
-    if code < first {
-        return Place::NotInSet;
-    }
-    let k = code - first;
-    if count <= k {
+    let k = (code as u64 + 256 - first as u64) % 256;
+    if count as u64 <= k {
         return Place::NotInSet;
     }
     let place = k as usize;
@@ -185,6 +183,7 @@ fn in_run(code: u8, first: u8, count: u8) -> Place
 
 // Where a capital stands in a run; a small letter stands in none.
 fn place_in(alphabet: u8, first: u8, count: u8, letter: u8) -> Place
+    requires { ⌜ (first ≤ 122) × (count ≤ 24) ⌝ }
     ensures { λ r. ⌜ r ≡ placeIn alphabet first count letter ⌝ }
 {
     if letter < b'A' {
@@ -378,17 +377,21 @@ fn ups_first(band: u8) -> u8
     }
 }
 
-// How many columns a UPS band has.
+// How many columns a UPS band has, and the tile of the first, under each of A to Z: a branch on the band would cost more.
+const UPS_COUNTS: [u8; 26] = *b"\x0c\x0c\0\0\0\0\0\0\0\0\0\0\0\0\0\0\0\0\0\0\0\0\0\0\x07\x07";
+
+const UPS_TILES: [u8; 26] = *b"\x08\x14\0\0\0\0\0\0\0\0\0\0\0\0\0\0\0\0\0\0\0\0\0\0\x0d\x14";
+
 fn ups_count(band: u8) -> u8
     ensures { λ r. ⌜ r ≡ runOf (upsColumns band) .count ⌝ }
 {
-    match band {
-        b'A' => 12,
-        b'B' => 12,
-        b'Y' => 7,
-        b'Z' => 7,
-        _ => 0,
+    if band < b'A' {
+        return 0;
     }
+    if b'Z' < band {
+        return 0;
+    }
+    UPS_COUNTS[(band - b'A') as usize]
 }
 
 // The place of a column's letter.
@@ -420,6 +423,45 @@ pub fn row_place(zone: i64, north: bool, letter: u8) -> Place
         Grid::Utm => place_in(0, b'a', 20, letter),
         Grid::Ups => place_in(0, b'a', ups_rows(north), letter),
         Grid::NoZone => Place::NotInSet,
+    }
+}
+
+fn ups_first_tile(band: u8) -> u8
+    ensures { λ r. ⌜ r ≡ firstTile (upsColumns band) ⌝ }
+{
+    if band < b'A' {
+        return 0;
+    }
+    if b'Z' < band {
+        return 0;
+    }
+    UPS_TILES[(band - b'A') as usize]
+}
+
+// The tile of the first column.
+pub fn first_column(zone: i64, band: u8) -> usize
+    ensures { λ r. ⌜ r ≡ firstTile (columnsOf zone band) ⌝ }
+{
+    match grid_of(zone) {
+        Grid::Utm => 1,
+        Grid::Ups => ups_first_tile(band) as usize,
+        Grid::NoZone => 0,
+    }
+}
+
+// The tile of the first row; UTM rows count none.
+pub fn first_row(zone: i64, north: bool) -> usize
+    ensures { λ r. ⌜ r ≡ firstTile (rowsOf zone north) ⌝ }
+{
+    match grid_of(zone) {
+        Grid::Utm => 0,
+        Grid::Ups => {
+            if north {
+                return 13;
+            }
+            8
+        }
+        Grid::NoZone => 0,
     }
 }
 

@@ -1,5 +1,4 @@
 // Reads a reference: bytes to parts, parts to a position, or the number of the rule by which the text is turned away.
-use letters::LetterSet;
 use letters::Place;
 use position::Metres;
 use position::MetresAnswer;
@@ -14,7 +13,6 @@ ghost use Prim.Native.Nat.{_+_, _≤_, _<_};
 ghost use lib.IntN.{pos, negsuc};
 ghost use lib.ListN.{length};
 ghost use lib.Signed.{_≤ℤ_};
-ghost use Rattle.letters.specs.Letters.{firstTile};
 ghost use Rattle.reader.specs.Head.{isInv, zoneWrong, headOf};
 ghost use Rattle.reader.specs.Bare.{bareTile, bareEasting, bareNorthing, bareOf};
 ghost use Rattle.reader.specs.Block.{tileOf, utmBlock, blockOf};
@@ -177,12 +175,12 @@ pub enum BlockAnswer {
     NoBlock(u64),
 }
 
-// The tile of a letter's place in a set that counts tiles.
-fn tile_at(set: LetterSet, place: usize) -> u8
-    requires { ⌜ place < 24 ⌝ }
-    ensures { λ r. ⌜ r ≡ firstTile set + place ⌝ }
+// The tile of a place, by the first letter's.
+fn tile_at(first: usize, place: usize) -> u8
+    requires { ⌜ (first ≤ 20) × (place < 24) ⌝ }
+    ensures { λ r. ⌜ r ≡ first + place ⌝ }
 {
-    (letters::first_tile(set) + place) as u8
+    (first + place) as u8
 }
 
 // The tile of a signed row: southern rows are negative.
@@ -220,9 +218,9 @@ fn block_of(zone: i64, band: u8, k: usize, column: u8, row: u8) -> BlockAnswer
     let Place::At(l) = letters::row_place(zone, north, row) else {
         return BlockAnswer::NoBlock(9);
     };
-    let easting = tile_at(letters::columns_of(zone, band), c);
+    let easting = tile_at(letters::first_column(zone, band), c);
     if zone < 1 {
-        let northing = tile_at(letters::rows_of(zone, north), l);
+        let northing = tile_at(letters::first_row(zone, north), l);
         return BlockAnswer::Block(Tiles { easting, northing });
     }
     utm_block(zone, k, c, l, easting)

@@ -1,3 +1,4 @@
 pub mod Laws
+mod High
 pub mod Decimals
 pub mod Unique

@@ -3,8 +3,8 @@
 ghost use mathlib.Core.Path.{_≡_};
 ghost use mathlib.Core.Bool.{true};
 ghost use Prim.Native.Nat.{_+_, _-_, _*_, _≤_, _<_, min};
-ghost use lib.ListN.{length};
-ghost use Rattle.runs.specs.Runs.{isDigit, allDigits, hasHigh, valueOf, leadOf};
+ghost use lib.ListN.{length, take, drop};
+ghost use Rattle.runs.specs.Runs.{isDigit, allDigits, high, hasHigh, valueOf, leadOf};
 ghost use Rattle.runs.specs.Digits.{noHalves, pairOf, digitsOf};
 
 // 0 to 9.
@@ -17,9 +17,9 @@ pub fn is_digit(b: u8) -> bool
     b <= b'9'
 }
 
-// Whether a byte of 128 or more stands anywhere: whether all bytes together, bit by bit, have the bit of 128. It goes to the
-// end in any case: a pass with no exit is the faster one.
-pub fn has_high(s: &[u8]) -> bool
+// All bytes together, bit by bit, have the bit of 128 exactly if one of them has. The pass goes to the end in any case: one with
+// no exit is compiled into wide steps.
+fn has_high_in(s: &[u8]) -> bool
     ensures { λ r. ⌜ r ≡ hasHigh (now (s .entry)) ⌝ }
 {
     let mut all: u8 = 0;
@@ -29,6 +29,29 @@ pub fn has_high(s: &[u8]) -> bool
         i += 1;
     }
     128 <= all
+}
+
+// Eight bytes together.
+fn eight(s: &[u8], i: usize) -> u8
+    requires { ⌜ i + 8 ≤ length (now s) ⌝ }
+    ensures { λ r. ⌜ high r ≡ hasHigh (take 8 (drop i (now (s .entry)))) ⌝ }
+{
+    s[i] | s[i + 1] | s[i + 2] | s[i + 3] | s[i + 4] | s[i + 5] | s[i + 6] | s[i + 7]
+}
+
+// Whether a byte of 128 or more stands anywhere. Most references have 8 to 16 bytes: their first eight and their last eight are all.
+pub fn has_high(s: &[u8]) -> bool
+    ensures { λ r. ⌜ r ≡ hasHigh (now (s .entry)) ⌝ }
+{
+    let n = s.len();
+    if n < 8 {
+        return has_high_in(s);
+    }
+    if 16 < n {
+        return has_high_in(s);
+    }
+    let both = eight(s, 0) | eight(s, n - 8);
+    128 <= both
 }
 
 // The number v followed by a digit. Eleven digits never wrap.

@@ -1,6 +1,7 @@
 -- `letters::band_place` meets its contract: the runs are those of the grid's sets.
 -- Assumes nothing.
 use mathlib.Core.Path.{_≡_, refl, sym, _∙_}
+use lib.Dec.{lit≤}
 use mir.Facts.{toZ-ofZ}
 use borrow.Author.Needs.{needs}
 use Rattle.letters.specs.declared.LetterSet.the-variants.{UtmBands, UpsBands}
@@ -28,10 +29,10 @@ enum-told-3 : tie.Need-enum-told-3
 enum-told-3 c = search needs
 
 place-in-requires : tie.Need-place-in-requires
-place-in-requires c κs = search needs
+place-in-requires c κs = (lit≤ tt, lit≤ tt)
 
 place-in-requires-2 : tie.Need-place-in-requires-2
-place-in-requires-2 c κs = search needs
+place-in-requires-2 c κs = (lit≤ tt, lit≤ tt)
 
 returns : tie.Need-returns
 unfolding bandsOf runOf

@@ -2,13 +2,14 @@
 -- Assumes nothing.
 use mathlib.Core.Path.{_≡_, refl, sym, _∙_}
 use Prim.Native.Nat.{ℕ}
+use lib.Dec.{lit≤}
 use mir.Facts.{toZ-ofZ}
 use borrow.Author.Needs.{needs}
 use Rattle.letters.specs.declared.Grid.the-variants.{Utm}
 use Rattle.letters.specs.Letters.{placeFrom, placeOf}
 use Rattle.letters.specs.Sets.{gridOf, utmColumns, upsColumns, columnsOf}
 use Rattle.letters.specs.Tables.{placeIn, runOf}
-use Rattle.letters.proofs.Runs.{run-place, utm-run, ups-run}
+use Rattle.letters.proofs.Runs.{run-place, run-small, utm-run, ups-run}
 use Rattle.letters.proofs.ZoneNumber.{zone-less-fits}
 use Rattle.letters.proofs.column_place.Statement.{statement}
 use Rattle.letters.proofs.column_place.Tie as tie
@@ -29,10 +30,10 @@ enum-told-3 : tie.Need-enum-told-3
 enum-told-3 c = search needs
 
 place-in-requires : tie.Need-place-in-requires
-place-in-requires c κs = search needs
+place-in-requires c κs = rw (c .utm-first .ensures) (run-small _ .0, lit≤ tt)
 
 place-in-requires-2 : tie.Need-place-in-requires-2
-place-in-requires-2 c κs = search needs
+place-in-requires-2 c κs = rw (c .ups-count .ensures, c .before .ups-first .ensures) (run-small _)
 
 utm : (c : tie.After-enum-told) → gridOf (c .before .before .before .args .zone) ≡ Utm
 utm c = sym (grid (c .before .before)) ∙ c .enum-told .given .1

@@ -22,7 +22,7 @@ code-in-requires : tie.Need-code-in-requires
 code-in-requires c κs = search needs
 
 in-run-requires : tie.Need-in-run-requires
-in-run-requires c κs = search needs
+in-run-requires c κs = c .before .before .before .pre
 
 returns-3 : tie.Need-returns-3
 unfolding placeIn

@@ -2,7 +2,7 @@
 -- Assumes nothing.
 use mathlib.Core.Path.{_∙_}
 use borrow.Author.Needs.{needs}
-use Rattle.letters.proofs.Runs.{run-place}
+use Rattle.letters.proofs.Runs.{run-place, run-small}
 use Rattle.letters.proofs.place_of.Statement.{statement}
 use Rattle.letters.proofs.place_of.Tie as tie
 
@@ -10,7 +10,7 @@ run-of-requires : tie.Need-run-of-requires
 run-of-requires c κs = search needs
 
 place-in-requires : tie.Need-place-in-requires
-place-in-requires c κs = search needs
+place-in-requires c κs = rw (c .run-of .ensures) (run-small (c .before .args .set))
 
 returns : tie.Need-returns
 returns c =

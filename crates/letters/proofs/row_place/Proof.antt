@@ -2,7 +2,8 @@
 -- Assumes nothing.
 use mathlib.Core.Path.{_≡_, refl, sym, _∙_}
 use mathlib.Core.Bool.{Bool, true, false, cond}
-use Prim.Native.Nat.{ℕ}
+use Prim.Native.Nat.{ℕ, _≤_}
+use lib.Dec.{lit≤}
 use mir.Facts.{toZ-ofZ}
 use borrow.Author.Needs.{needs}
 use Rattle.letters.specs.declared.LetterSet.the-variants.{UtmRows, UpsRowsNorth, UpsRowsSouth}
@@ -30,10 +31,15 @@ enum-told-3 : tie.Need-enum-told-3
 enum-told-3 c = search needs
 
 place-in-requires : tie.Need-place-in-requires
-place-in-requires c κs = search needs
+place-in-requires c κs = (lit≤ tt, lit≤ tt)
+
+-- both hemispheres' rows are a run of at most 24
+few : (north : Bool) → cond north 14 24 ≤ 24
+few true = lit≤ tt
+few false = lit≤ tt
 
 place-in-requires-2 : tie.Need-place-in-requires-2
-place-in-requires-2 c κs = search needs
+place-in-requires-2 c κs = rw (c .ups-rows .ensures) (lit≤ tt, few (c .before .before .before .before .args .north))
 
 ups-rows-requires : tie.Need-ups-rows-requires
 ups-rows-requires c κs = search needs

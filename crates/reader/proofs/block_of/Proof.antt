@@ -7,6 +7,7 @@ use Rattle.letters.specs.declared.Place.the-variants.{At}
 use Rattle.letters.specs.Letters.{placeOf}
 use Rattle.letters.specs.Sets.{columnsOf, rowsOf, northBand}
 use Rattle.reader.specs.Block.{blockOf}
+use Rattle.letters.proofs.Laws.{first-le}
 use Rattle.letters.proofs.Places.{place-lt}
 use Rattle.reader.proofs.block_of.Statement.{statement}
 use Rattle.reader.proofs.block_of.Tie as tie
@@ -63,17 +64,17 @@ row-at : (c : tie.After-known-told2)
     placeOf (rowsOf (s .args .zone) (northBand (s .args .band))) (s .args .row) ≡ At (c .before .l .given .0 .0)
 row-at c = sym (row (c .before .before .before)) ∙ c .before .l .given .1
 
-columns-of-requires : tie.Need-columns-of-requires
-columns-of-requires c κs = search needs
+first-column-requires : tie.Need-first-column-requires
+first-column-requires c κs = search needs
 
 tile-at-requires : tie.Need-tile-at-requires
-tile-at-requires c κs = place-lt _ _ _ (column-at (c .before .before .before .before .before))
+tile-at-requires c κs = (rw (c .first-column .ensures) (first-le _), place-lt _ _ _ (column-at (c .before .before .before .before .before)))
 
-rows-of-requires : tie.Need-rows-of-requires
-rows-of-requires c κs = search needs
+first-row-requires : tie.Need-first-row-requires
+first-row-requires c κs = search needs
 
 tile-at-requires-2 : tie.Need-tile-at-requires-2
-tile-at-requires-2 c κs = place-lt _ _ _ (row-at (c .before .before .before .before))
+tile-at-requires-2 c κs = (rw (c .first-row .ensures) (first-le _), place-lt _ _ _ (row-at (c .before .before .before .before)))
 
 returns-3 : tie.Need-returns-3
 unfolding blockOf
@@ -88,8 +89,8 @@ returns-3 c =
     let n = d .before .before .before .before in
     let s = n .before in
     let z = rw (toZ-ofZ (s .fits .zone)) at (t .if1 .taken) in
-    let e = rw (k .columns-of .ensures, toZ-ofZ (s .fits .zone)) at (a .tile-at .ensures) in
-    let m = rw (w .rows-of .ensures, toZ-ofZ (s .fits .zone), n .is-north .ensures) at (c .tile-at2 .ensures) in
+    let e = rw (k .first-column .ensures, toZ-ofZ (s .fits .zone)) at (a .tile-at .ensures) in
+    let m = rw (w .first-row .ensures, toZ-ofZ (s .fits .zone), n .is-north .ensures) at (c .tile-at2 .ensures) in
     rw (column-at d, row-at r, z, e, m)
 
 utm-block-requires : tie.Need-utm-block-requires
@@ -107,7 +108,7 @@ returns-4 c =
     let n = d .before .before .before .before in
     let s = n .before in
     let z = rw (toZ-ofZ (s .fits .zone)) at (t .if1 .left) in
-    let e = rw (k .columns-of .ensures, toZ-ofZ (s .fits .zone)) at (a .tile-at .ensures) in
+    let e = rw (k .first-column .ensures, toZ-ofZ (s .fits .zone)) at (a .tile-at .ensures) in
     let u = rw (toZ-ofZ (s .fits .zone), e) at (c .utm-block .ensures) in
     rw (column-at d, row-at r, z) u
 
@@ -124,9 +125,9 @@ block-of-spec =
     enum-known-l
     enum-told-2
     returns-2
-    columns-of-requires
+    first-column-requires
     tile-at-requires
-    rows-of-requires
+    first-row-requires
     tile-at-requires-2
     returns-3
     utm-block-requires

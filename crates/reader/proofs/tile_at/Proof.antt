@@ -1,27 +1,18 @@
--- `reader::tile_at` meets its contract: a set's first tile is at most 20.
+-- `reader::tile_at` meets its contract: both numbers are small.
 -- Assumes nothing.
-use mathlib.Core.Path.{ap}
-use Prim.Native.Nat.{ℕ, _+_, _≤_}
+use mathlib.Core.Path.{refl}
 use native.Mathlib.Omega.{arith}
-use borrow.Author.Needs.{needs}
-use Rattle.letters.proofs.Laws.{first-le}
 use Rattle.reader.proofs.tile_at.Statement.{statement}
 use Rattle.reader.proofs.tile_at.Tie as tie
 
-first-tile-requires : tie.Need-first-tile-requires
-first-tile-requires c κs = search needs
-
-small : (c : tie.After-first-tile) → c .first-tile .result ≤ 20
-small c = rw (c .first-tile .ensures) (first-le (c .before .args .set))
-
 add-result : tie.Need-add-result
-add-result c = let h = small c in let k = c .before .pre in record { fits = omega arith }
+add-result c = omega (arith, c .pre)
 
 cast-result : tie.Need-cast-result
-cast-result c = let h = small c in let k = c .before .pre in record { fits = omega arith }
+cast-result c = omega (arith, c .pre)
 
 returns : tie.Need-returns
-returns c = ap (λ (t : ℕ). t + c .before .args .place) (c .first-tile .ensures)
+returns c = refl
 
 pub tile-at-spec : {M : Type 1} → statement M
-tile-at-spec = tie.close (tie.spec first-tile-requires add-result cast-result returns)
+tile-at-spec = tie.close (tie.spec add-result cast-result returns)

@@ -1,0 +1,53 @@
+-- `runs::has_high_in` meets its contract: what was found in all bytes together, or is found from i on, is what is found in all.
+-- Assumes nothing.
+use mathlib.Core.Path.{_≡_, refl, sym, _∙_}
+use mathlib.Core.Bool.{_||_}
+use mathlib.Core.List.{List}
+use Prim.Native.Nat.{ℕ, _+_, _-_, _≤_, _<_}
+use native.Mathlib.Numerals.{add-one}
+use borrow.Author.Needs.{needs}
+use lib.Bits.{bitOr}
+use lib.ListN.{length, getD, drop, drop-of-length-le}
+use lib.Seq.{drop-cons}
+use Rattle.runs.specs.Runs.{high, hasHigh}
+use Rattle.runs.proofs.High.{or-assoc, or-false, together}
+use Rattle.runs.proofs.has_high_in.Statement.{statement}
+use Rattle.runs.proofs.has_high_in.Tie as tie
+
+abbrev Inv-loop : tie.InvT-loop
+Inv-loop s all₀ i₀ all i = hasHigh s ≡ (high all || hasHigh (drop i s))
+
+abbrev μ-loop : tie.MeasureT-loop
+μ-loop s all₀ i₀ all i = length s - i
+
+turn : (s : List ℕ) (i all : ℕ) → i < length s → (high all || hasHigh (drop i s)) ≡ (high (bitOr all (getD s i 0)) || hasHigh (drop (i + 1) s))
+unfolding hasHigh
+turn s i all h = rw (add-one, drop-cons s i 0, together all (getD s i 0)) (or-assoc (high all) _ _)
+
+end : (s : List ℕ) (i all : ℕ) → length s ≤ i → (high all || hasHigh (drop i s)) ≡ high all
+unfolding hasHigh
+end s i all h = rw (drop-of-length-le s h) (or-false (high all))
+
+loop-holds : tie.Need-loop-holds Inv-loop μ-loop
+loop-holds c = refl
+
+shared-slice-read-all : tie.Need-shared-slice-read-all Inv-loop μ-loop
+shared-slice-read-all c = search needs
+
+add-i : tie.Need-add-i Inv-loop μ-loop
+add-i c = search needs
+
+loop-less : tie.Need-loop-less Inv-loop μ-loop
+loop-less c = search needs
+
+loop-again : tie.Need-loop-again Inv-loop μ-loop
+loop-again c =
+    let t = c .before in
+    let l = t .before in
+    l .loop .inv ∙ turn (l .before .args .s .now) (l .loop .i) (l .loop .all) (t .loop-test .taken)
+
+returns : tie.Need-returns Inv-loop μ-loop
+returns c = let l = c .before in sym (l .loop .inv ∙ end (l .before .args .s .now) (l .loop .i) (l .loop .all) (c .loop-test .left))
+
+pub has-high-in-spec : {M : Type 1} → statement M
+has-high-in-spec = tie.close (tie.spec Inv-loop μ-loop loop-holds shared-slice-read-all add-i loop-less loop-again returns)
