@@ -118,6 +118,8 @@ def hostile():
     yield from ((start + "9081726354018273645500998"[:n]).encode() for start in ("14MKT", "15SWC", "BGN", "YZG") for n in range(26))
     yield from (bytes([b]) for b in range(1, 256) if b != 10)
     yield from (b"18TWL1234\x80", b"\xff18T", b"INV\x80", b"18TWL12\xc3\xa9", b"\xc3\x8918T")
+    # a high byte at each place of texts around eight and around sixteen bytes
+    yield from (b"1" * k + b"\x80" + b"1" * (n - 1 - k) for n in (7, 8, 9, 15, 16, 17) for k in range(n))
     yield from (b"18TWL" + b"1" * n for n in (58, 59, 60, 61))
     yield from (b"x" * n for n in (63, 64, 65, 66, 127, 128, 129, 4096))
     yield b"9" * 10000
