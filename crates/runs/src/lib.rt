@@ -1,5 +1,5 @@
 // What stands in a text, byte by byte: high bytes, digits, the digits that lead, the two numbers that digits halve into.
-// Every call takes any slice and looks at each of its bytes once.
+// Every call takes any slice and looks at each of its bytes once; has_high looks at some bytes of a short text twice.
 ghost use mathlib.Core.Path.{_≡_};
 ghost use mathlib.Core.Bool.{true};
 ghost use Prim.Native.Nat.{_+_, _-_, _*_, _≤_, _<_, min};
