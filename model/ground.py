@@ -16,7 +16,7 @@ BANDS = "CDEFGHJKLMNPQRSTUVWX"
 COLUMNS = ["ABCDEFGH", "JKLMNPQR", "STUVWXYZ"]
 ROWS = "ABCDEFGHJKLMNPQRSTUV"
 UPS_COLUMNS = {"A": ("JKLPQRSTUXYZ", 8), "B": ("ABCFGHJKLPQR", 20), "Y": ("RSTUXYZ", 13), "Z": ("ABCFGHJ", 20)}
-UPS_ROWS = {"false": ("ABCDEFGHJKLMNPQRSTUVWXYZ", 8), "true": ("ABCDEFGHJKLMNP", 13)}
+UPS_ROWS = {False: ("ABCDEFGHJKLMNPQRSTUVWXYZ", 8), True: ("ABCDEFGHJKLMNP", 13)}
 
 
 def limits(b):
@@ -99,18 +99,15 @@ def check(zone, north, easting, northing, margin):
     return f": {'N' if north else 'S'} {easting} {northing}"
 
 
-def letter_set(call):
-    name, words = re.fullmatch(r"letters::(\w+)\((.*)\)", call).groups()
-    first, *rest = [w.strip() for w in words.split(",")]
-    zone = int(first)
+def letter_set(name, zone, which=None):
     utm, ups = 1 <= zone <= 60, zone == 0
     letters, tile = "", 0
     if name == "bands_of":
         letters = BANDS if utm else "ABYZ" if ups else ""
     elif name == "columns_of":
-        letters, tile = (COLUMNS[(zone - 1) % 3], 1) if utm else UPS_COLUMNS.get(rest[0][2], ("", 0)) if ups else ("", 0)
+        letters, tile = (COLUMNS[(zone - 1) % 3], 1) if utm else UPS_COLUMNS.get(which, ("", 0)) if ups else ("", 0)
     else:
-        letters, tile = (ROWS, 0) if utm else UPS_ROWS[rest[0]] if ups else ("", 0)
+        letters, tile = (ROWS, 0) if utm else UPS_ROWS[which] if ups else ("", 0)
     return f"set {letters} {len(letters)} {tile}"
 
 
@@ -165,10 +162,10 @@ def number(word):
 
 
 def line(name, words):
-    if name == "letter_set":
-        return letter_set(words)
     args = [w.strip() for w in words.split(",") if w.strip()]
     args = [w[2] if w.startswith("b'") else number(w.replace("_", "")) for w in args]
+    if name in ("bands_of", "columns_of", "rows_of"):
+        return letter_set(name, *args)
     if name == "limits":
         return "limits {} {} {}".format(args[0], *limits(args[0]))
     if name == "band":

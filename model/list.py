@@ -52,7 +52,7 @@ def read(text):
     if len(rest) == 1:
         return 7
     columns, first = (COLUMNS[(zone - 1) % 3], 1) if zone else UPS_COLUMNS[band]
-    rows, lowest = (ROWS, 0) if zone else UPS_ROWS["true" if side == "N" else "false"]
+    rows, lowest = (ROWS, 0) if zone else UPS_ROWS[side == "N"]
     if rest[0] not in columns:
         return 8
     if rest[1] not in rows:

@@ -30,7 +30,7 @@ def letters(zone, north, band, column, row):
         shift = 5 if zone % 2 == 0 else 0
         return COLUMNS[(zone - 1) % 3][column - 1] + ROWS[((row if north else row - 100) + shift) % 20]
     columns, first = UPS_COLUMNS[band]
-    rows, lowest = UPS_ROWS["true" if north else "false"]
+    rows, lowest = UPS_ROWS[bool(north)]
     return columns[column - first] + rows[row - lowest]
 
 

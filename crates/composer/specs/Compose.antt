@@ -6,8 +6,7 @@ use lib.IntN.{ℤ, pos, negsuc, _-ℤ_}
 use lib.Signed.{ltZ}
 use Rattle.whole.specs.Compare.{outside}
 use Rattle.whole.specs.Floor.{fold}
-use Rattle.letters.specs.declared.LetterSet.{LetterSet}
-use Rattle.letters.specs.Letters.{placeOf, byPlace, letterAt, firstTile}
+use Rattle.letters.specs.Letters.{LetterSet, placeOf, byPlace, letterAt, firstTile}
 use Rattle.letters.specs.Sets.{bandsOf, columnsOf, rowsOf, northBand, eastBand}
 use Rattle.rows.specs.Allowed.{allowed}
 use Rattle.rows.specs.Letters.{shiftOf, letterOf}

@@ -1,5 +1,4 @@
 // A point to the parts of its reference, or the number of the rule that forbids writing it.
-use letters::LetterSet;
 use letters::Place;
 use position::MgrsCheck;
 use position::Parts;
@@ -8,6 +7,7 @@ ghost use Prim.Native.Nat.{_≤_, _<_};
 ghost use lib.IntN.{pos, negsuc};
 ghost use lib.Signed.{_≤ℤ_};
 ghost use Rattle.position.specs.Squares.{sideLength};
+ghost use Rattle.letters.specs.Sets.{columnsOf, rowsOf};
 ghost use Rattle.composer.specs.Compose.{agree, rowOf, letterOfTile, utmFits, upsFits, fits, rowLetter, cutOf, partsAt, madeOf, composedAt, composed};
 
 // ---- a point's tiles, their letters and the bands that fit
@@ -25,15 +25,15 @@ fn row_of(north: bool, tile: usize) -> i64
     tile as i64 - 100
 }
 
-// The letter of a tile; 0, which is no letter, where the set has none.
-fn letter_of_tile(set: LetterSet, tile: usize) -> u8
-    ensures { λ r. ⌜ r ≡ letterOfTile set tile ⌝ }
+// The letter of a column's tile; 0, which is no letter, where there is none.
+fn column_letter(zone: i64, band: u8, tile: usize) -> u8
+    ensures { λ r. ⌜ r ≡ letterOfTile (columnsOf zone band) tile ⌝ }
 {
-    let first = letters::first_tile(set);
-    if tile < first {
+    let west = letters::first_column(zone, band);
+    if tile < west {
         return 0;
     }
-    letters::letter_at(set, tile - first)
+    letters::column_letter(zone, band, tile - west)
 }
 
 fn utm_fits(k: usize, column: usize, row: i64) -> bool
@@ -72,16 +72,27 @@ fn is_fitting(zone: i64, band: u8, k: usize, north: bool, column: usize, tile: u
     utm_fits(k, column, row_of(north, tile))
 }
 
+// The same of a row's tile, where rows count tiles.
+fn ups_row_letter(zone: i64, north: bool, tile: usize) -> u8
+    ensures { λ r. ⌜ r ≡ letterOfTile (rowsOf zone north) tile ⌝ }
+{
+    let south = letters::first_row(zone, north);
+    if tile < south {
+        return 0;
+    }
+    letters::row_letter(zone, north, tile - south)
+}
+
 fn row_letter(zone: i64, north: bool, tile: usize) -> u8
     requires { ⌜ tile < 1000000000 ⌝ }
     ensures { λ r. ⌜ r ≡ rowLetter zone north tile ⌝ }
 {
-    let rows = letters::rows_of(zone, north);
     if zone < 1 {
-        return letter_of_tile(rows, tile);
+        return ups_row_letter(zone, north, tile);
     }
-    letters::letter_at(
-        rows,
+    letters::row_letter(
+        zone,
+        north,
         rows::letter_of(rows::shift_of(zone), row_of(north, tile)),
     )
 }
@@ -101,19 +112,24 @@ pub enum Composed {
     Refused(u64),
 }
 
-// The digits of one axis, cut.
+// The digits of one axis, cut: what is left of a tile, by the side of a square. Both are made greater by a power of ten, and
+// the side a constant: to divide by any other number takes several times as long.
 fn cut_of(p: i64, x: u64) -> u64
     requires { ⌜ 0 < sideLength p ⌝ }
     ensures { λ r. ⌜ r ≡ cutOf p x ⌝ }
 {
-    x % TILE / position::side_length(p)
+    let digits = whole::fold_of(p) as usize;
+    if digits < 8 {
+        return x % TILE * whole::power_of_ten(digits) / TILE;
+    }
+    x % TILE * whole::power_of_ten(digits - 8) / 2_000
 }
 
 fn parts_at(zone: i64, band: u8, north: bool, p: i64, e: u64, n: u64) -> Parts
     requires { ⌜ 0 < sideLength p ⌝ }
     ensures { λ r. ⌜ r ≡ partsAt zone band north p e n ⌝ }
 {
-    let column = letter_of_tile(letters::columns_of(zone, band), (e / TILE) as usize);
+    let column = column_letter(zone, band, (e / TILE) as usize);
     let row = row_letter(zone, north, (n / TILE) as usize);
     let easting = cut_of(p, e);
     let northing = cut_of(p, n);

@@ -1,7 +1,6 @@
 // Runs the worked examples of document 01 that belong to this layer and prints each with its answer.
 // The gate holds what is printed to the file stdout, which was made from document 01 and not from this program.
 use letters::Grid;
-use letters::LetterSet;
 use letters::Place;
 use libc::STDOUT_FILENO;
 use position::MetresAnswer;
@@ -167,70 +166,138 @@ fn shifts() {
     shift(-2);
 }
 
+// A set of letters, as it is asked for: that of a zone's bands, columns or rows.
+enum Kind {
+    Bands,
+    Columns,
+    Rows,
+}
+
+struct Asked {
+    kind: Kind,
+    zone: i64,
+    band: u8,
+    north: bool,
+}
+
+fn letter_at(a: Asked, k: usize) -> u8 {
+    let kind = a.kind;
+    match kind {
+        Kind::Bands => letters::band_letter(a.zone, k),
+        Kind::Columns => letters::column_letter(a.zone, a.band, k),
+        Kind::Rows => letters::row_letter(a.zone, a.north, k),
+    }
+}
+
+fn place_of(a: Asked, byte: u8) -> Place {
+    let kind = a.kind;
+    match kind {
+        Kind::Bands => letters::band_place(a.zone, byte),
+        Kind::Columns => letters::column_place(a.zone, a.band, byte),
+        Kind::Rows => letters::row_place(a.zone, a.north, byte),
+    }
+}
+
+fn first_tile(a: Asked) -> usize {
+    let kind = a.kind;
+    match kind {
+        Kind::Bands => 0,
+        Kind::Columns => letters::first_column(a.zone, a.band),
+        Kind::Rows => letters::first_row(a.zone, a.north),
+    }
+}
+
 // The letters of a set in their order.
-fn spell(set: LetterSet) {
+fn spell(a: Asked) {
     let mut k = 0;
-    while k < 24 {
-        let letter = letters::letter_at(set, k);
-        if letter != 0 {
-            say(&[letter]);
+    while k < 26 {
+        let found = letter_at(a, k);
+        if found != 0 {
+            say(&[found]);
         }
         k += 1;
     }
 }
 
 // Whether a byte is found in a set, at a place that holds it.
-fn is_found(set: LetterSet, byte: u8) -> bool {
-    match letters::place_of(set, byte) {
-        Place::At(k) => letters::letter_at(set, k) == byte,
+fn is_found(a: Asked, byte: u8) -> bool {
+    match place_of(a, byte) {
+        Place::At(k) => letter_at(a, k) == byte,
         Place::NotInSet => false,
     }
 }
 
 // How many of all bytes are found in a set.
-fn found_in(set: LetterSet) -> u64 {
+fn found_in(a: Asked) -> u64 {
     let mut n: u64 = 0;
     let mut byte: u8 = 0;
     while byte < 255 {
-        if is_found(set, byte) {
+        if is_found(a, byte) {
             n += 1;
         }
         byte += 1;
     }
-    if is_found(set, 255) {
+    if is_found(a, 255) {
         n += 1;
     }
     n
 }
 
-fn letter_set(set: LetterSet) {
+fn letter_set(a: Asked) {
     say(b"set ");
-    spell(set);
-    number(found_in(set));
-    number(letters::first_tile(set) as u64);
+    spell(a);
+    number(found_in(a));
+    number(first_tile(a) as u64);
     say(b"\n");
 }
 
+fn bands_of(zone: i64) {
+    letter_set(Asked {
+        kind: Kind::Bands,
+        zone,
+        band: 0,
+        north: false,
+    });
+}
+
+fn columns_of(zone: i64, band: u8) {
+    letter_set(Asked {
+        kind: Kind::Columns,
+        zone,
+        band,
+        north: false,
+    });
+}
+
+fn rows_of(zone: i64, north: bool) {
+    letter_set(Asked {
+        kind: Kind::Rows,
+        zone,
+        band: 0,
+        north,
+    });
+}
+
 fn utm_sets() {
-    letter_set(letters::bands_of(18));
-    letter_set(letters::columns_of(1, b'T'));
-    letter_set(letters::columns_of(2, b'T'));
-    letter_set(letters::columns_of(3, b'T'));
-    letter_set(letters::columns_of(60, b'T'));
-    letter_set(letters::rows_of(18, true));
-    letter_set(letters::bands_of(61));
-    letter_set(letters::columns_of(-1, b'A'));
+    bands_of(18);
+    columns_of(1, b'T');
+    columns_of(2, b'T');
+    columns_of(3, b'T');
+    columns_of(60, b'T');
+    rows_of(18, true);
+    bands_of(61);
+    columns_of(-1, b'A');
 }
 
 fn ups_sets() {
-    letter_set(letters::bands_of(0));
-    letter_set(letters::columns_of(0, b'A'));
-    letter_set(letters::columns_of(0, b'B'));
-    letter_set(letters::columns_of(0, b'Y'));
-    letter_set(letters::columns_of(0, b'Z'));
-    letter_set(letters::columns_of(0, b'C'));
-    letter_set(letters::rows_of(0, false));
-    letter_set(letters::rows_of(0, true));
+    bands_of(0);
+    columns_of(0, b'A');
+    columns_of(0, b'B');
+    columns_of(0, b'Y');
+    columns_of(0, b'Z');
+    columns_of(0, b'C');
+    rows_of(0, false);
+    rows_of(0, true);
 }
 
 // A byte as a capital.
@@ -275,9 +342,9 @@ fn sides() {
     side(b'X');
 }
 
-// The place of a letter, for the rows below: 99 for none.
-fn place(set: LetterSet, letter: u8) -> usize {
-    match letters::place_of(set, letters::capital(letter)) {
+// A place as a number, for the rows below: 99 for none.
+fn at(place: Place) -> usize {
+    match place {
         Place::At(k) => k,
         Place::NotInSet => 99,
     }
@@ -327,9 +394,9 @@ fn square(zone: i64, band: u8, column: u8, row: u8) {
     say(b"row");
     signed(zone);
     say(&[band, column, row]);
-    let b = place(letters::bands_of(zone), band);
-    let c = place(letters::columns_of(zone, band), column);
-    let r = place(letters::rows_of(zone, true), row);
+    let b = at(letters::band_place(zone, letters::capital(band)));
+    let c = at(letters::column_place(zone, band, letters::capital(column)));
+    let r = at(letters::row_place(zone, true, letters::capital(row)));
     if 20 <= b {
         say(b" no band\n");
         return;

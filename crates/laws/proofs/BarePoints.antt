@@ -12,9 +12,8 @@ use Rattle.whole.specs.Compare.{isNumber}
 use Rattle.whole.specs.Floor.{floorDiv}
 use Rattle.whole.proofs.Parts.{T-true}
 use Rattle.whole.proofs.Table.{each}
-use Rattle.letters.specs.declared.LetterSet.the-variants.{UtmBands}
+use Rattle.letters.specs.Letters.{UtmBands, placeOf}
 use Rattle.letters.specs.declared.Place.the-variants.{At}
-use Rattle.letters.specs.Letters.{placeOf}
 use Rattle.letters.specs.Sets.{bandsOf, northBand, eastBand}
 use Rattle.letters.proofs.Laws.{place-below}
 use Rattle.rows.specs.Limits.{limitsOf}

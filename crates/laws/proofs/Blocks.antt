@@ -9,10 +9,8 @@ use lib.IntN.{ℤ, pos, _-ℤ_}
 use lib.Signed.{ltZ}
 use Rattle.whole.proofs.Parts.{clash}
 use Rattle.letters.specs.declared.Grid.the-variants.{Ups}
-use Rattle.letters.specs.declared.LetterSet.{LetterSet}
-use Rattle.letters.specs.declared.LetterSet.the-variants.{UpsRowsSouth, UpsRowsNorth}
+use Rattle.letters.specs.Letters.{LetterSet, UpsRowsSouth, UpsRowsNorth, placeOf, firstTile}
 use Rattle.letters.specs.declared.Place.the-variants.{At}
-use Rattle.letters.specs.Letters.{placeOf, firstTile}
 use Rattle.letters.specs.Sets.{gridOf, bandsOf, upsColumns, columnsOf, rowsOf, northBand, eastBand}
 use Rattle.letters.proofs.Laws.{place-below, place-holds}
 use Rattle.rows.specs.declared.RowAnswer.{RowAnswer}

@@ -10,12 +10,10 @@ use lib.IntN.{ℤ, pos}
 use lib.ListN.{length, getD, drop, length-append}
 use lib.Seq.{append-snoc, getD-append-seam, drop-append-add}
 use Rattle.whole.proofs.Parts.{clash}
-use Rattle.letters.specs.declared.LetterSet.{LetterSet}
-use Rattle.letters.specs.declared.LetterSet.the-variants.{NoLetters, UtmBands, UpsBands}
+use Rattle.letters.specs.Letters.{LetterSet, NoLetters, UtmBands, UpsBands, capitalOf, placeFrom, placeOf}
 use Rattle.letters.specs.declared.Grid.{Grid}
 use Rattle.letters.specs.declared.Grid.the-variants.{Utm, Ups, NoZone}
 use Rattle.letters.specs.declared.Place.the-variants.{At, NotInSet}
-use Rattle.letters.specs.Letters.{capitalOf, placeFrom, placeOf}
 use Rattle.letters.specs.Sets.{gridOf, byGrid, bandsOf}
 use Rattle.letters.proofs.Laws.{no-capital}
 use Rattle.runs.specs.Runs.{high, hasHigh, isDigit, allDigits, valueFrom, valueOf, leadOf, lastDigits}

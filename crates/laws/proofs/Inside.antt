@@ -14,9 +14,8 @@ use Rattle.whole.specs.Floor.{floorMod}
 use Rattle.whole.proofs.Parts.{up, dn, clash, eq-by, sub-parts, ≤ℤ-parts}
 use Rattle.whole.proofs.Table.{alike}
 use Rattle.letters.specs.declared.Grid.the-variants.{Utm, Ups, NoZone}
-use Rattle.letters.specs.declared.LetterSet.the-variants.{UtmBands, UpsBands, UtmColumns0, UtmColumns1, UtmColumns2, UpsRowsSouth, UpsRowsNorth}
+use Rattle.letters.specs.Letters.{UtmBands, UpsBands, UtmColumns0, UtmColumns1, UtmColumns2, UpsRowsSouth, UpsRowsNorth, placeFrom, placeOf, letterAt, firstTile}
 use Rattle.letters.specs.declared.Place.the-variants.{At, NotInSet}
-use Rattle.letters.specs.Letters.{placeFrom, placeOf, letterAt, firstTile}
 use Rattle.letters.specs.Sets.{gridOf, bandsOf, utmColumns, upsColumns, columnsOf, northBand, eastBand}
 use Rattle.letters.proofs.Laws.{sizeOf, place-below, place-holds}
 use Rattle.rows.specs.Allowed.{within, sameSign, folded, allowed}

@@ -8,11 +8,9 @@ use lib.Dec.{T, leb}
 use lib.IntN.{ℤ, pos, negsuc, _-ℤ_}
 use mir.Facts.{and-yes}
 use Rattle.whole.proofs.Parts.{up, dn, T-true, eq-by, sub-parts}
-use Rattle.letters.specs.declared.LetterSet.{LetterSet}
-use Rattle.letters.specs.declared.LetterSet.the-variants.{UtmRows}
+use Rattle.letters.specs.Letters.{LetterSet, UtmRows, placeOf, firstTile}
 use Rattle.letters.specs.declared.Grid.the-variants.{Utm}
 use Rattle.letters.specs.declared.Place.the-variants.{At}
-use Rattle.letters.specs.Letters.{placeOf, firstTile}
 use Rattle.letters.specs.Sets.{gridOf, bandsOf, columnsOf, rowsOf, northBand, eastBand}
 use Rattle.letters.proofs.Laws.{sizeOf, letter-found}
 use Rattle.rows.specs.Allowed.{allowed, sameSign}

@@ -10,9 +10,8 @@ use lib.IntN.{ℤ, pos, negsuc}
 use lib.ListN.{length, take, drop, length-drop, take-append-drop}
 use Rattle.whole.specs.Compare.{outside}
 use Rattle.whole.proofs.Parts.{clash}
-use Rattle.letters.specs.declared.LetterSet.{LetterSet}
+use Rattle.letters.specs.Letters.{LetterSet, capitalOf, placeOf}
 use Rattle.letters.specs.declared.Place.the-variants.{At, NotInSet}
-use Rattle.letters.specs.Letters.{capitalOf, placeOf}
 use Rattle.letters.proofs.Laws.{no-capital}
 use Rattle.position.specs.declared.Position.{Position}
 use Rattle.position.specs.Squares.{cornerOf, southWest}

@@ -13,10 +13,9 @@ use lib.Dec.{T, eqb, leb, leb→le, eqb→eq}
 use lib.ListN.{length, getD, List·getD-eq-default}
 use Rattle.whole.proofs.Parts.{clash}
 use Rattle.whole.proofs.Table.{all, each, every, every-head, every-tail}
-use Rattle.letters.specs.declared.LetterSet.{LetterSet}
+use Rattle.letters.specs.Letters.{LetterSet, lettersOf, placeFrom, placeOf, letterAt, firstTile}
 use Rattle.letters.specs.declared.Place.{Place}
 use Rattle.letters.specs.declared.Place.the-variants.{At, NotInSet}
-use Rattle.letters.specs.Letters.{lettersOf, placeFrom, placeOf, letterAt, firstTile}
 use Rattle.letters.proofs.Sets.{setAt, for-all}
 
 -- at the i-th place of a list from i on: the j-th place holds x

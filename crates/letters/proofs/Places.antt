@@ -2,10 +2,9 @@
 use mathlib.Core.Path.{_≡_, refl}
 use Prim.Native.Nat.{ℕ, _<_}
 use native.Mathlib.Omega.{arith}
-use Rattle.letters.specs.declared.LetterSet.{LetterSet}
+use Rattle.letters.specs.Letters.{LetterSet, placeOf, byPlace}
 use Rattle.letters.specs.declared.Place.{Place}
 use Rattle.letters.specs.declared.Place.the-variants.{At, NotInSet}
-use Rattle.letters.specs.Letters.{placeOf, byPlace}
 use Rattle.letters.proofs.Laws.{place-below, size-le}
 
 -- where the answer is not the one for a letter in no set, it is the one at the letter's place

@@ -1,13 +1,12 @@
 -- The sets by a number each, so that one computation covers all of them. Assumes nothing.
-use mathlib.Core.Path.{_≡_, refl, subst, _∙_}
+use mathlib.Core.Path.{_≡_, refl, subst}
 use mathlib.Core.Bool.{Bool}
 use mathlib.Core.List.{List, [], _∷_}
 use Prim.Native.Nat.{ℕ, _<_}
 use lib.Dec.{T, lit<}
 use lib.ListN.{getD}
-use Rattle.whole.proofs.Table.{values, row, all, each}
-use Rattle.letters.specs.declared.LetterSet.{LetterSet}
-use Rattle.letters.specs.declared.LetterSet.the-variants.{NoLetters, UtmBands, UpsBands, UtmColumns0, UtmColumns1, UtmColumns2, UtmRows, UpsColumnsA, UpsColumnsB, UpsColumnsY, UpsColumnsZ, UpsRowsSouth, UpsRowsNorth}
+use Rattle.whole.proofs.Table.{all, each}
+use Rattle.letters.specs.Letters.{LetterSet, NoLetters, UtmBands, UpsBands, UtmColumns0, UtmColumns1, UtmColumns2, UtmRows, UpsColumnsA, UpsColumnsB, UpsColumnsY, UpsColumnsZ, UpsRowsSouth, UpsRowsNorth}
 
 -- a number for each set, and the set of a number
 abbrev pub numberOf : LetterSet → ℕ
@@ -61,7 +60,3 @@ set-is UpsRowsNorth = refl
 -- what a computation shows of each number holds of each set
 pub for-all : (f : LetterSet → Bool) → T (all 13 (λ n. f (setAt n))) → (set : LetterSet) → T (f set)
 for-all f t set = subst (λ (s : LetterSet). T (f s)) (set-is set) (each 13 (λ n. f (setAt n)) t (numberOf set) (number-lt set))
-
--- the table of the set that was matched: a rule of the sets, read at a place
-pub in-table : (f : LetterSet → ℕ → ℕ) (given set : LetterSet) (n k : ℕ) (xs : List ℕ) → given ≡ set → xs ≡ values (f set) 0 n → k < n → getD xs k 0 ≡ f given k
-in-table f given set n k xs e t h = row (f set) xs n t 0 k h ∙ rw e

@@ -6,20 +6,8 @@ use borrow.Fn.World.{ArgsD, ResD}
 use denote.Triple.Clauses.{AtExit}
 use Rattle.letters.proofs.capital as capital
 use Rattle.letters.proofs.capital.Reads as capital-reads
-use Rattle.letters.proofs.place_of as place-of
-use Rattle.letters.proofs.place_of.Reads as place-of-reads
-use Rattle.letters.proofs.letter_at as letter-at
-use Rattle.letters.proofs.letter_at.Reads as letter-at-reads
-use Rattle.letters.proofs.first_tile as first-tile
-use Rattle.letters.proofs.first_tile.Reads as first-tile-reads
 use Rattle.letters.proofs.grid_of as grid-of
 use Rattle.letters.proofs.grid_of.Reads as grid-of-reads
-use Rattle.letters.proofs.bands_of as bands-of
-use Rattle.letters.proofs.bands_of.Reads as bands-of-reads
-use Rattle.letters.proofs.columns_of as columns-of
-use Rattle.letters.proofs.columns_of.Reads as columns-of-reads
-use Rattle.letters.proofs.rows_of as rows-of
-use Rattle.letters.proofs.rows_of.Reads as rows-of-reads
 use Rattle.letters.proofs.is_north as is-north
 use Rattle.letters.proofs.is_north.Reads as is-north-reads
 use Rattle.letters.proofs.is_east as is-east
@@ -30,6 +18,12 @@ use Rattle.letters.proofs.column_place as column-place
 use Rattle.letters.proofs.column_place.Reads as column-place-reads
 use Rattle.letters.proofs.row_place as row-place
 use Rattle.letters.proofs.row_place.Reads as row-place-reads
+use Rattle.letters.proofs.band_letter as band-letter
+use Rattle.letters.proofs.band_letter.Reads as band-letter-reads
+use Rattle.letters.proofs.column_letter as column-letter
+use Rattle.letters.proofs.column_letter.Reads as column-letter-reads
+use Rattle.letters.proofs.row_letter as row-letter
+use Rattle.letters.proofs.row_letter.Reads as row-letter-reads
 use Rattle.letters.proofs.first_column as first-column
 use Rattle.letters.proofs.first_column.Reads as first-column-reads
 use Rattle.letters.proofs.first_row as first-row
@@ -38,26 +32,8 @@ use Rattle.letters.proofs.first_row.Reads as first-row-reads
 pub capital-unique : (κs : Lfts 0) (a : ArgsD capital.signature κs) (r r′ : ResD capital.signature κs) (s s′ : AtExit capital.ended κs) → capital-reads.Post κs a r s → capital-reads.Post κs a r′ s′ → r ≡ r′
 capital-unique κs a r r′ s s′ p q = p ∙ sym q
 
-pub place-of-unique : (κs : Lfts 0) (a : ArgsD place-of.signature κs) (r r′ : ResD place-of.signature κs) (s s′ : AtExit place-of.ended κs) → place-of-reads.Post κs a r s → place-of-reads.Post κs a r′ s′ → r ≡ r′
-place-of-unique κs a r r′ s s′ p q = p ∙ sym q
-
-pub letter-at-unique : (κs : Lfts 0) (a : ArgsD letter-at.signature κs) (r r′ : ResD letter-at.signature κs) (s s′ : AtExit letter-at.ended κs) → letter-at-reads.Post κs a r s → letter-at-reads.Post κs a r′ s′ → r ≡ r′
-letter-at-unique κs a r r′ s s′ p q = p ∙ sym q
-
-pub first-tile-unique : (κs : Lfts 0) (a : ArgsD first-tile.signature κs) (r r′ : ResD first-tile.signature κs) (s s′ : AtExit first-tile.ended κs) → first-tile-reads.Post κs a r s → first-tile-reads.Post κs a r′ s′ → r ≡ r′
-first-tile-unique κs a r r′ s s′ p q = p ∙ sym q
-
 pub grid-of-unique : (κs : Lfts 0) (a : ArgsD grid-of.signature κs) (r r′ : ResD grid-of.signature κs) (s s′ : AtExit grid-of.ended κs) → grid-of-reads.Post κs a r s → grid-of-reads.Post κs a r′ s′ → r ≡ r′
 grid-of-unique κs a r r′ s s′ p q = p ∙ sym q
-
-pub bands-of-unique : (κs : Lfts 0) (a : ArgsD bands-of.signature κs) (r r′ : ResD bands-of.signature κs) (s s′ : AtExit bands-of.ended κs) → bands-of-reads.Post κs a r s → bands-of-reads.Post κs a r′ s′ → r ≡ r′
-bands-of-unique κs a r r′ s s′ p q = p ∙ sym q
-
-pub columns-of-unique : (κs : Lfts 0) (a : ArgsD columns-of.signature κs) (r r′ : ResD columns-of.signature κs) (s s′ : AtExit columns-of.ended κs) → columns-of-reads.Post κs a r s → columns-of-reads.Post κs a r′ s′ → r ≡ r′
-columns-of-unique κs a r r′ s s′ p q = p ∙ sym q
-
-pub rows-of-unique : (κs : Lfts 0) (a : ArgsD rows-of.signature κs) (r r′ : ResD rows-of.signature κs) (s s′ : AtExit rows-of.ended κs) → rows-of-reads.Post κs a r s → rows-of-reads.Post κs a r′ s′ → r ≡ r′
-rows-of-unique κs a r r′ s s′ p q = p ∙ sym q
 
 pub is-north-unique : (κs : Lfts 0) (a : ArgsD is-north.signature κs) (r r′ : ResD is-north.signature κs) (s s′ : AtExit is-north.ended κs) → is-north-reads.Post κs a r s → is-north-reads.Post κs a r′ s′ → r ≡ r′
 is-north-unique κs a r r′ s s′ p q = p ∙ sym q
@@ -73,6 +49,15 @@ column-place-unique κs a r r′ s s′ p q = p ∙ sym q
 
 pub row-place-unique : (κs : Lfts 0) (a : ArgsD row-place.signature κs) (r r′ : ResD row-place.signature κs) (s s′ : AtExit row-place.ended κs) → row-place-reads.Post κs a r s → row-place-reads.Post κs a r′ s′ → r ≡ r′
 row-place-unique κs a r r′ s s′ p q = p ∙ sym q
+
+pub band-letter-unique : (κs : Lfts 0) (a : ArgsD band-letter.signature κs) (r r′ : ResD band-letter.signature κs) (s s′ : AtExit band-letter.ended κs) → band-letter-reads.Post κs a r s → band-letter-reads.Post κs a r′ s′ → r ≡ r′
+band-letter-unique κs a r r′ s s′ p q = p ∙ sym q
+
+pub column-letter-unique : (κs : Lfts 0) (a : ArgsD column-letter.signature κs) (r r′ : ResD column-letter.signature κs) (s s′ : AtExit column-letter.ended κs) → column-letter-reads.Post κs a r s → column-letter-reads.Post κs a r′ s′ → r ≡ r′
+column-letter-unique κs a r r′ s s′ p q = p ∙ sym q
+
+pub row-letter-unique : (κs : Lfts 0) (a : ArgsD row-letter.signature κs) (r r′ : ResD row-letter.signature κs) (s s′ : AtExit row-letter.ended κs) → row-letter-reads.Post κs a r s → row-letter-reads.Post κs a r′ s′ → r ≡ r′
+row-letter-unique κs a r r′ s s′ p q = p ∙ sym q
 
 pub first-column-unique : (κs : Lfts 0) (a : ArgsD first-column.signature κs) (r r′ : ResD first-column.signature κs) (s s′ : AtExit first-column.ended κs) → first-column-reads.Post κs a r s → first-column-reads.Post κs a r′ s′ → r ≡ r′
 first-column-unique κs a r r′ s s′ p q = p ∙ sym q

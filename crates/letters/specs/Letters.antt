@@ -6,8 +6,6 @@ use Prim.Native.Char.{code}
 use lib.Dec.{eqb, ltb}
 use lib.ListN.{getD}
 use Rattle.whole.specs.Text.{bytes}
-use Rattle.letters.specs.declared.LetterSet.{LetterSet}
-use Rattle.letters.specs.declared.LetterSet.the-variants.{NoLetters, UtmBands, UpsBands, UtmColumns0, UtmColumns1, UtmColumns2, UtmRows, UpsColumnsA, UpsColumnsB, UpsColumnsY, UpsColumnsZ, UpsRowsSouth, UpsRowsNorth}
 use Rattle.letters.specs.declared.Place.{Place}
 use Rattle.letters.specs.declared.Place.the-variants.{At, NotInSet}
 
@@ -15,7 +13,23 @@ use Rattle.letters.specs.declared.Place.the-variants.{At, NotInSet}
 unfoldable pub capitalOf : ℕ → ℕ
 capitalOf b = cond (ltb b (code "a")) b (cond (ltb (code "z") b) b (b - 32))
 
--- The sets, letter for letter. A zone or a UPS band that does not exist has no letters.
+-- The twelve sets, and one for zones and UPS bands that do not exist.
+pub data LetterSet : Type 0 where
+  NoLetters : LetterSet
+  UtmBands : LetterSet
+  UpsBands : LetterSet
+  UtmColumns0 : LetterSet
+  UtmColumns1 : LetterSet
+  UtmColumns2 : LetterSet
+  UtmRows : LetterSet
+  UpsColumnsA : LetterSet
+  UpsColumnsB : LetterSet
+  UpsColumnsY : LetterSet
+  UpsColumnsZ : LetterSet
+  UpsRowsSouth : LetterSet
+  UpsRowsNorth : LetterSet
+
+-- The sets, letter for letter.
 abbrev pub lettersOf : LetterSet → List ℕ
 lettersOf NoLetters = []
 lettersOf UtmBands = bytes "CDEFGHJKLMNPQRSTUVWX"

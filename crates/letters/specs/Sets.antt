@@ -8,8 +8,7 @@ use lib.Signed.{ltZ}
 use Rattle.whole.specs.Floor.{floorMod}
 use Rattle.letters.specs.declared.Grid.{Grid}
 use Rattle.letters.specs.declared.Grid.the-variants.{Utm, Ups, NoZone}
-use Rattle.letters.specs.declared.LetterSet.{LetterSet}
-use Rattle.letters.specs.declared.LetterSet.the-variants.{NoLetters, UtmBands, UpsBands, UtmColumns0, UtmColumns1, UtmColumns2, UtmRows, UpsColumnsA, UpsColumnsB, UpsColumnsY, UpsColumnsZ, UpsRowsSouth, UpsRowsNorth}
+use Rattle.letters.specs.Letters.{LetterSet, NoLetters, UtmBands, UpsBands, UtmColumns0, UtmColumns1, UtmColumns2, UtmRows, UpsColumnsA, UpsColumnsB, UpsColumnsY, UpsColumnsZ, UpsRowsSouth, UpsRowsNorth}
 
 -- "zone not 0..60" is none; "zone (0 for UPS)"; the others are UTM's.
 unfoldable pub gridOf : ℤ → Grid

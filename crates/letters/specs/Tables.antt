@@ -5,13 +5,11 @@ use mathlib.Core.List.{List}
 use Prim.Native.Nat.{ℕ, _+_, _-_}
 use Prim.Native.Char.{code}
 use lib.Dec.{eqb, leb, ltb}
+use lib.ListN.{getD}
 use Rattle.whole.specs.Text.{bytes}
-use Rattle.letters.specs.declared.LetterSet.{LetterSet}
-use Rattle.letters.specs.declared.LetterSet.the-variants.{NoLetters, UtmBands, UpsBands, UtmColumns0, UtmColumns1, UtmColumns2, UtmRows, UpsColumnsA, UpsColumnsB, UpsColumnsY, UpsColumnsZ, UpsRowsSouth, UpsRowsNorth}
+use Rattle.letters.specs.Letters.{LetterSet, NoLetters, UtmBands, UpsBands, UtmColumns0, UtmColumns1, UtmColumns2, UtmRows, UpsColumnsA, UpsColumnsB, UpsColumnsY, UpsColumnsZ, UpsRowsSouth, UpsRowsNorth, placeFrom}
 use Rattle.letters.specs.declared.Place.{Place}
 use Rattle.letters.specs.declared.Place.the-variants.{At, NotInSet}
-use Rattle.letters.specs.declared.Run.{Run}
-use Rattle.letters.specs.Letters.{placeFrom}
 
 -- The alphabets that the sets are runs of: all letters but I and O, those of the UPS columns, the UPS bands.
 abbrev pub lettersIn : ℕ → List ℕ
@@ -30,15 +28,29 @@ codeIn n i = codeOf (placeFrom 0 (lettersIn n) (code "A" + i))
 unfoldable pub inRun : ℕ → ℕ → ℕ → Place
 inRun x first count = cond (ltb x first) NotInSet (cond (leb count (x - first)) NotInSet (At (x - first)))
 
--- Where a byte stands in a run: nowhere, if it is no capital.
-unfoldable pub placeIn : ℕ → ℕ → ℕ → ℕ → Place
-placeIn n first count b =
-    cond (ltb b (code "A")) NotInSet (cond (ltb (code "Z") b) NotInSet (inRun (codeIn n (b - code "A")) first count))
-
 -- A set as a run: its alphabet, the code of its first letter there, and how many letters it has.
+pub record Run : Type 0 where
+  pub alphabet : ℕ
+  pub first : ℕ
+  pub count : ℕ
+
 abbrev pub run : ℕ → ℕ → ℕ → Run
 run alphabet first count = record { alphabet = alphabet; first = first; count = count }
 
+-- Where a byte stands in a run: nowhere, if it is no capital.
+unfoldable pub placeIn : Run → ℕ → Place
+placeIn run b =
+    cond (ltb b (code "A")) NotInSet
+    (cond (ltb (code "Z") b) NotInSet (inRun (codeIn (run .alphabet) (b - code "A")) (run .first) (run .count)))
+
+-- The letter at a place of an alphabet, and at a place of a run, 0 past its end.
+unfoldable pub letterOf : ℕ → ℕ → ℕ
+letterOf n k = getD (lettersIn n) k 0
+
+unfoldable pub letterIn : Run → ℕ → ℕ
+letterIn run k = cond (leb (run .count) k) 0 (letterOf (run .alphabet) (run .first - code "a" + k))
+
+-- The runs of the sets.
 unfoldable pub runOf : LetterSet → Run
 runOf NoLetters = run 1 (code "a") 0
 runOf UtmBands = run 0 (code "c") 20

@@ -3,25 +3,8 @@ ghost use mathlib.Core.Path.{_≡_};
 ghost use mathlib.Core.Bool.{cond};
 ghost use Rattle.letters.specs.Letters.{capitalOf, placeOf, letterAt, firstTile};
 ghost use Rattle.letters.specs.Sets.{gridOf, bandsOf, utmColumns, upsColumns, columnsOf, rowsOf, northBand, eastBand};
-ghost use Rattle.letters.specs.Tables.{runOf, codeIn, inRun, placeIn};
-ghost use Prim.Native.Nat.{_<_, _≤_};
-
-// The twelve sets, and one for zones and bands that do not exist.
-pub enum LetterSet {
-    NoLetters,
-    UtmBands,
-    UpsBands,
-    UtmColumns0,
-    UtmColumns1,
-    UtmColumns2,
-    UtmRows,
-    UpsColumnsA,
-    UpsColumnsB,
-    UpsColumnsY,
-    UpsColumnsZ,
-    UpsRowsSouth,
-    UpsRowsNorth,
-}
+ghost use Rattle.letters.specs.Tables.{run, runOf, codeIn, inRun, placeIn, letterOf, letterIn};
+ghost use Prim.Native.Nat.{_<_, _≤_, _+_};
 
 // Where a letter stands in a set, if it does.
 pub enum Place {
@@ -29,40 +12,21 @@ pub enum Place {
     NotInSet,
 }
 
-// Each set, filled up with zeros: place to letter is one read, of a table of the set's own: the compiler builds a table where
-// it is read.
-const UTM_BANDS: [u8; 24] = *b"CDEFGHJKLMNPQRSTUVWX\0\0\0\0";
+// Every set of letters is a run of one of three alphabets: all letters but I and O, those of the UPS columns, and the UPS bands,
+// here filled up with zeros. So place to letter is one read, and for all UTM sets of the same table: which of them a zone uses
+// costs no branch. The compiler builds a table where it is read, so they are short.
+const ALL_LETTERS: [u8; 24] = *b"ABCDEFGHJKLMNPQRSTUVWXYZ";
 
-const UPS_BANDS: [u8; 24] = *b"ABYZ\0\0\0\0\0\0\0\0\0\0\0\0\0\0\0\0\0\0\0\0";
+const COLUMN_LETTERS: [u8; 24] = *b"ABCFGHJKLPQRSTUXYZ\0\0\0\0\0\0";
 
-const UTM_COLUMNS_0: [u8; 24] = *b"ABCDEFGH\0\0\0\0\0\0\0\0\0\0\0\0\0\0\0\0";
+const BAND_LETTERS: [u8; 24] = *b"ABYZ\0\0\0\0\0\0\0\0\0\0\0\0\0\0\0\0\0\0\0\0";
 
-const UTM_COLUMNS_1: [u8; 24] = *b"JKLMNPQR\0\0\0\0\0\0\0\0\0\0\0\0\0\0\0\0";
+// And letter to place: under each of A to Z stands its place there, a for 0, b for 1 and so on, or a dot.
+const ALL_CODES: [u8; 26] = *b"abcdefgh.ijklm.nopqrstuvwx";
 
-const UTM_COLUMNS_2: [u8; 24] = *b"STUVWXYZ\0\0\0\0\0\0\0\0\0\0\0\0\0\0\0\0";
+const COLUMN_CODES: [u8; 26] = *b"abc..def.ghi...jklmno..pqr";
 
-const UTM_ROWS: [u8; 24] = *b"ABCDEFGHJKLMNPQRSTUV\0\0\0\0";
-
-const UPS_COLUMNS_A: [u8; 24] = *b"JKLPQRSTUXYZ\0\0\0\0\0\0\0\0\0\0\0\0";
-
-const UPS_COLUMNS_B: [u8; 24] = *b"ABCFGHJKLPQR\0\0\0\0\0\0\0\0\0\0\0\0";
-
-const UPS_COLUMNS_Y: [u8; 24] = *b"RSTUXYZ\0\0\0\0\0\0\0\0\0\0\0\0\0\0\0\0\0";
-
-const UPS_COLUMNS_Z: [u8; 24] = *b"ABCFGHJ\0\0\0\0\0\0\0\0\0\0\0\0\0\0\0\0\0";
-
-const UPS_ROWS_SOUTH: [u8; 24] = *b"ABCDEFGHJKLMNPQRSTUVWXYZ";
-
-const UPS_ROWS_NORTH: [u8; 24] = *b"ABCDEFGHJKLMNP\0\0\0\0\0\0\0\0\0\0";
-
-// The other way round, every set is a run of one of three alphabets: all letters but I and O, those of the UPS columns, and
-// the UPS bands. Under each of A to Z stands its place there, a for 0, b for 1 and so on, or a dot. So letter to place is
-// one read too, and for all UTM sets of the same table: what the zone is costs no branch.
-const ALL_LETTERS: [u8; 26] = *b"abcdefgh.ijklm.nopqrstuvwx";
-
-const COLUMN_LETTERS: [u8; 26] = *b"abc..def.ghi...jklmno..pqr";
-
-const BAND_LETTERS: [u8; 26] = *b"ab......................cd";
+const BAND_CODES: [u8; 26] = *b"ab......................cd";
 
 // a-z count as A-Z.
 pub fn capital(b: u8) -> u8
@@ -77,84 +41,7 @@ pub fn capital(b: u8) -> u8
     b - 32
 }
 
-// A set as a run: its alphabet, 0 to 2, the code of its first letter there, and how many letters it has.
-struct Run {
-    alphabet: u8,
-    first: u8,
-    count: u8,
-}
-
-fn run_of(set: LetterSet) -> Run
-    ensures { λ r. ⌜ r ≡ runOf set ⌝ }
-{
-    match set {
-        LetterSet::NoLetters => Run {
-            alphabet: 1,
-            first: b'a',
-            count: 0,
-        },
-        LetterSet::UtmBands => Run {
-            alphabet: 0,
-            first: b'c',
-            count: 20,
-        },
-        LetterSet::UpsBands => Run {
-            alphabet: 2,
-            first: b'a',
-            count: 4,
-        },
-        LetterSet::UtmColumns0 => Run {
-            alphabet: 0,
-            first: b'a',
-            count: 8,
-        },
-        LetterSet::UtmColumns1 => Run {
-            alphabet: 0,
-            first: b'i',
-            count: 8,
-        },
-        LetterSet::UtmColumns2 => Run {
-            alphabet: 0,
-            first: b'q',
-            count: 8,
-        },
-        LetterSet::UtmRows => Run {
-            alphabet: 0,
-            first: b'a',
-            count: 20,
-        },
-        LetterSet::UpsColumnsA => Run {
-            alphabet: 1,
-            first: b'g',
-            count: 12,
-        },
-        LetterSet::UpsColumnsB => Run {
-            alphabet: 1,
-            first: b'a',
-            count: 12,
-        },
-        LetterSet::UpsColumnsY => Run {
-            alphabet: 1,
-            first: b'l',
-            count: 7,
-        },
-        LetterSet::UpsColumnsZ => Run {
-            alphabet: 1,
-            first: b'a',
-            count: 7,
-        },
-        LetterSet::UpsRowsSouth => Run {
-            alphabet: 0,
-            first: b'a',
-            count: 24,
-        },
-        LetterSet::UpsRowsNorth => Run {
-            alphabet: 0,
-            first: b'a',
-            count: 14,
-        },
-    }
-}
+// ---- in a run: its alphabet, 0 to 2 in the order above, the code of its first letter, and how many letters it has
 
 // What the alphabet's table holds of the letter that stands `index` letters after A.
 fn code_in(alphabet: u8, index: usize) -> u8
@@ -162,9 +49,9 @@ fn code_in(alphabet: u8, index: usize) -> u8
     ensures { λ r. ⌜ r ≡ codeIn alphabet index ⌝ }
 {
     match alphabet {
-        0 => ALL_LETTERS[index],
-        1 => COLUMN_LETTERS[index],
-        _ => BAND_LETTERS[index],
+        0 => ALL_CODES[index],
+        1 => COLUMN_CODES[index],
+        _ => BAND_CODES[index],
     }
 }
 
@@ -183,8 +70,8 @@ fn in_run(code: u8, first: u8, count: u8) -> Place
 
 // Where a capital stands in a run; a small letter stands in none.
 fn place_in(alphabet: u8, first: u8, count: u8, letter: u8) -> Place
-    requires { ⌜ (first ≤ 122) × (count ≤ 24) ⌝ }
-    ensures { λ r. ⌜ r ≡ placeIn alphabet first count letter ⌝ }
+    requires { ⌜ (97 ≤ first) × (first + count ≤ 121) ⌝ }
+    ensures { λ r. ⌜ r ≡ placeIn (run alphabet first count) letter ⌝ }
 {
     if letter < b'A' {
         return Place::NotInSet;
@@ -195,66 +82,30 @@ fn place_in(alphabet: u8, first: u8, count: u8, letter: u8) -> Place
     in_run(code_in(alphabet, (letter - b'A') as usize), first, count)
 }
 
-// Where a capital stands in a set.
-pub fn place_of(set: LetterSet, letter: u8) -> Place
-    ensures { λ r. ⌜ r ≡ placeOf set letter ⌝ }
-{
-    let run = run_of(set);
-    place_in(run.alphabet, run.first, run.count, letter)
-}
-
-// What the set's table holds at a place.
-fn letter_in(set: LetterSet, place: usize) -> u8
+// The letter that stands at a place of an alphabet.
+fn letter_of(alphabet: u8, place: usize) -> u8
     requires { ⌜ place < 24 ⌝ }
-    ensures { λ r. ⌜ r ≡ letterAt set place ⌝ }
+    ensures { λ r. ⌜ r ≡ letterOf alphabet place ⌝ }
 {
-    match set {
-        LetterSet::NoLetters => 0,
-        LetterSet::UtmBands => UTM_BANDS[place],
-        LetterSet::UpsBands => UPS_BANDS[place],
-        LetterSet::UtmColumns0 => UTM_COLUMNS_0[place],
-        LetterSet::UtmColumns1 => UTM_COLUMNS_1[place],
-        LetterSet::UtmColumns2 => UTM_COLUMNS_2[place],
-        LetterSet::UtmRows => UTM_ROWS[place],
-        LetterSet::UpsColumnsA => UPS_COLUMNS_A[place],
-        LetterSet::UpsColumnsB => UPS_COLUMNS_B[place],
-        LetterSet::UpsColumnsY => UPS_COLUMNS_Y[place],
-        LetterSet::UpsColumnsZ => UPS_COLUMNS_Z[place],
-        LetterSet::UpsRowsSouth => UPS_ROWS_SOUTH[place],
-        LetterSet::UpsRowsNorth => UPS_ROWS_NORTH[place],
+    match alphabet {
+        0 => ALL_LETTERS[place],
+        1 => COLUMN_LETTERS[place],
+        _ => BAND_LETTERS[place],
     }
 }
 
-// The letter at a place, 0 past the set's end.
-pub fn letter_at(set: LetterSet, place: usize) -> u8
-    ensures { λ r. ⌜ r ≡ letterAt set place ⌝ }
+// The letter at a place of a run, 0 past its end.
+fn letter_in(alphabet: u8, first: u8, count: u8, place: usize) -> u8
+    requires { ⌜ (97 ≤ first) × (first + count ≤ 121) ⌝ }
+    ensures { λ r. ⌜ r ≡ letterIn (run alphabet first count) place ⌝ }
 {
-    if 24 <= place {
+    if count as usize <= place {
         return 0;
     }
-    letter_in(set, place)
+    letter_of(alphabet, (first - b'a') as usize + place)
 }
 
-// The tile of the set's first letter; 0 for bands and UTM rows, which count no tiles.
-pub fn first_tile(set: LetterSet) -> usize
-    ensures { λ r. ⌜ r ≡ firstTile set ⌝ }
-{
-    match set {
-        LetterSet::NoLetters => 0,
-        LetterSet::UtmBands => 0,
-        LetterSet::UpsBands => 0,
-        LetterSet::UtmColumns0 => 1,
-        LetterSet::UtmColumns1 => 1,
-        LetterSet::UtmColumns2 => 1,
-        LetterSet::UtmRows => 0,
-        LetterSet::UpsColumnsA => 8,
-        LetterSet::UpsColumnsB => 20,
-        LetterSet::UpsColumnsY => 13,
-        LetterSet::UpsColumnsZ => 20,
-        LetterSet::UpsRowsSouth => 8,
-        LetterSet::UpsRowsNorth => 13,
-    }
-}
+// ---- of a zone, a band, a hemisphere: each call has the zone's cases itself, so that the alphabet is a constant in each
 
 // The grid of a zone number.
 pub enum Grid {
@@ -279,70 +130,6 @@ pub fn grid_of(zone: i64) -> Grid
     Grid::Utm
 }
 
-// The bands of a zone.
-pub fn bands_of(zone: i64) -> LetterSet
-    ensures { λ r. ⌜ r ≡ bandsOf zone ⌝ }
-{
-    match grid_of(zone) {
-        Grid::Utm => LetterSet::UtmBands,
-        Grid::Ups => LetterSet::UpsBands,
-        Grid::NoZone => LetterSet::NoLetters,
-    }
-}
-
-// The sets of columns repeat every three zones.
-fn utm_columns(third: u64) -> LetterSet
-    ensures { λ r. ⌜ r ≡ utmColumns third ⌝ }
-{
-    match third {
-        0 => LetterSet::UtmColumns0,
-        1 => LetterSet::UtmColumns1,
-        _ => LetterSet::UtmColumns2,
-    }
-}
-
-// Each UPS band has columns of its own.
-fn ups_columns(band: u8) -> LetterSet
-    ensures { λ r. ⌜ r ≡ upsColumns band ⌝ }
-{
-    match band {
-        b'A' => LetterSet::UpsColumnsA,
-        b'B' => LetterSet::UpsColumnsB,
-        b'Y' => LetterSet::UpsColumnsY,
-        b'Z' => LetterSet::UpsColumnsZ,
-        _ => LetterSet::NoLetters,
-    }
-}
-
-// The columns of a UTM zone, or of a UPS band at zone 0.
-pub fn columns_of(zone: i64, band: u8) -> LetterSet
-    ensures { λ r. ⌜ r ≡ columnsOf zone band ⌝ }
-{
-    match grid_of(zone) {
-        Grid::Utm => utm_columns(whole::floor_mod(zone - 1, 3)),
-        Grid::Ups => ups_columns(band),
-        Grid::NoZone => LetterSet::NoLetters,
-    }
-}
-
-// The rows of a UTM zone, or of a UPS hemisphere at zone 0.
-pub fn rows_of(zone: i64, north: bool) -> LetterSet
-    ensures { λ r. ⌜ r ≡ rowsOf zone north ⌝ }
-{
-    match grid_of(zone) {
-        Grid::Utm => LetterSet::UtmRows,
-        Grid::Ups => {
-            if north {
-                return LetterSet::UpsRowsNorth;
-            }
-            LetterSet::UpsRowsSouth
-        }
-        Grid::NoZone => LetterSet::NoLetters,
-    }
-}
-
-// ---- the same without naming the set: what reading asks, with no branch on which of its sets a zone or a band uses
-
 // The place of a band's letter.
 pub fn band_place(zone: i64, letter: u8) -> Place
     ensures { λ r. ⌜ r ≡ placeOf (bandsOf zone) letter ⌝ }
@@ -351,6 +138,17 @@ pub fn band_place(zone: i64, letter: u8) -> Place
         Grid::Utm => place_in(0, b'c', 20, letter),
         Grid::Ups => place_in(2, b'a', 4, letter),
         Grid::NoZone => Place::NotInSet,
+    }
+}
+
+// The band's letter at a place, 0 past the last.
+pub fn band_letter(zone: i64, place: usize) -> u8
+    ensures { λ r. ⌜ r ≡ letterAt (bandsOf zone) place ⌝ }
+{
+    match grid_of(zone) {
+        Grid::Utm => letter_in(0, b'c', 20, place),
+        Grid::Ups => letter_in(2, b'a', 4, place),
+        Grid::NoZone => 0,
     }
 }
 
@@ -405,6 +203,17 @@ pub fn column_place(zone: i64, band: u8, letter: u8) -> Place
     }
 }
 
+// The column's letter at a place, 0 past the last.
+pub fn column_letter(zone: i64, band: u8, place: usize) -> u8
+    ensures { λ r. ⌜ r ≡ letterAt (columnsOf zone band) place ⌝ }
+{
+    match grid_of(zone) {
+        Grid::Utm => letter_in(0, utm_first(whole::floor_mod(zone - 1, 3)), 8, place),
+        Grid::Ups => letter_in(1, ups_first(band), ups_count(band), place),
+        Grid::NoZone => 0,
+    }
+}
+
 // How many rows a UPS hemisphere has.
 fn ups_rows(north: bool) -> u8
     ensures { λ r. ⌜ r ≡ cond north 14 24 ⌝ }
@@ -423,6 +232,17 @@ pub fn row_place(zone: i64, north: bool, letter: u8) -> Place
         Grid::Utm => place_in(0, b'a', 20, letter),
         Grid::Ups => place_in(0, b'a', ups_rows(north), letter),
         Grid::NoZone => Place::NotInSet,
+    }
+}
+
+// The row's letter at a place, 0 past the last.
+pub fn row_letter(zone: i64, north: bool, place: usize) -> u8
+    ensures { λ r. ⌜ r ≡ letterAt (rowsOf zone north) place ⌝ }
+{
+    match grid_of(zone) {
+        Grid::Utm => letter_in(0, b'a', 20, place),
+        Grid::Ups => letter_in(0, b'a', ups_rows(north), place),
+        Grid::NoZone => 0,
     }
 }
 

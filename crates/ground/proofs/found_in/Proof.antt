@@ -7,10 +7,10 @@ use Rattle.ground.proofs.found_in.Statement.{statement}
 use Rattle.ground.proofs.found_in.Tie as tie
 
 abbrev Inv-loop : tie.InvT-loop
-Inv-loop set n₀ byte₀ n byte = (n ≤ byte) × (byte ≤ 255)
+Inv-loop a n₀ byte₀ n byte = (n ≤ byte) × (byte ≤ 255)
 
 abbrev μ-loop : tie.MeasureT-loop
-μ-loop set n₀ byte₀ n byte = 255 - byte
+μ-loop a n₀ byte₀ n byte = 255 - byte
 
 loop-holds : tie.Need-loop-holds Inv-loop μ-loop
 loop-holds c = search needs

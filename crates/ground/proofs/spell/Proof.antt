@@ -5,10 +5,10 @@ use Rattle.ground.proofs.spell.Statement.{statement}
 use Rattle.ground.proofs.spell.Tie as tie
 
 abbrev Inv-loop : tie.InvT-loop
-Inv-loop set k₀ k = k ≤ 24
+Inv-loop a k₀ k = k ≤ 26
 
 abbrev μ-loop : tie.MeasureT-loop
-μ-loop set k₀ k = 24 - k
+μ-loop a k₀ k = 26 - k
 
 loop-holds : tie.Need-loop-holds Inv-loop μ-loop
 loop-holds c = search needs

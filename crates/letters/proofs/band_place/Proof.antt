@@ -4,9 +4,8 @@ use mathlib.Core.Path.{_≡_, refl, sym, _∙_}
 use lib.Dec.{lit≤}
 use mir.Facts.{toZ-ofZ}
 use borrow.Author.Needs.{needs}
-use Rattle.letters.specs.declared.LetterSet.the-variants.{UtmBands, UpsBands}
+use Rattle.letters.specs.Letters.{UtmBands, UpsBands, placeFrom, placeOf}
 use Rattle.letters.specs.declared.Grid.the-variants.{Utm}
-use Rattle.letters.specs.Letters.{placeFrom, placeOf}
 use Rattle.letters.specs.Sets.{gridOf, bandsOf}
 use Rattle.letters.specs.Tables.{runOf}
 use Rattle.letters.proofs.Runs.{run-place}

@@ -1,15 +1,12 @@
 -- `letters::column_place` meets its contract: the runs are those of the grid's sets.
 -- Assumes nothing.
-use mathlib.Core.Path.{_≡_, refl, sym, _∙_}
-use Prim.Native.Nat.{ℕ}
-use lib.Dec.{lit≤}
+use mathlib.Core.Path.{_≡_, sym, _∙_}
 use mir.Facts.{toZ-ofZ}
 use borrow.Author.Needs.{needs}
 use Rattle.letters.specs.declared.Grid.the-variants.{Utm}
-use Rattle.letters.specs.Letters.{placeFrom, placeOf}
-use Rattle.letters.specs.Sets.{gridOf, utmColumns, upsColumns, columnsOf}
-use Rattle.letters.specs.Tables.{placeIn, runOf}
-use Rattle.letters.proofs.Runs.{run-place, run-small, utm-run, ups-run}
+use Rattle.letters.specs.Letters.{placeOf, placeFrom}
+use Rattle.letters.specs.Sets.{gridOf, columnsOf}
+use Rattle.letters.proofs.Runs.{run-place, run-small, utm-is, utm-small, ups-is}
 use Rattle.letters.proofs.ZoneNumber.{zone-less-fits}
 use Rattle.letters.proofs.column_place.Statement.{statement}
 use Rattle.letters.proofs.column_place.Tie as tie
@@ -30,7 +27,7 @@ enum-told-3 : tie.Need-enum-told-3
 enum-told-3 c = search needs
 
 place-in-requires : tie.Need-place-in-requires
-place-in-requires c κs = rw (c .utm-first .ensures) (run-small _ .0, lit≤ tt)
+place-in-requires c κs = rw (c .utm-first .ensures) (utm-small _)
 
 place-in-requires-2 : tie.Need-place-in-requires-2
 place-in-requires-2 c κs = rw (c .ups-count .ensures, c .before .ups-first .ensures) (run-small _)
@@ -55,13 +52,6 @@ ups-first-requires c κs = search needs
 ups-count-requires : tie.Need-ups-count-requires
 ups-count-requires c κs = search needs
 
--- the run of a zone's columns, by its third, and of a UPS band's
-utm-place : (m b : ℕ) → placeIn 0 (runOf (utmColumns m) .first) 8 b ≡ placeOf (utmColumns m) b
-utm-place m b = let r = utm-run m in rw (r .0, r .1) at (run-place (utmColumns m) b)
-
-ups-place : (x b : ℕ) → placeIn 1 (runOf (upsColumns x) .first) (runOf (upsColumns x) .count) b ≡ placeOf (upsColumns x) b
-ups-place x b = rw (ups-run x) at (run-place (upsColumns x) b)
-
 returns : tie.Need-returns
 unfolding columnsOf
 returns c =
@@ -70,7 +60,7 @@ returns c =
     let t = m .before in
     let s = t .before .before .before in
     let e = rw (toZ-ofZ (s .fits .zone), toZ-ofZ (zone-less-fits (s .args .zone) (s .fits .zone) (utm t))) at (m .floor-mod .ensures) in
-    rw (utm t) ((rw (f .utm-first .ensures, e) at (c .place-in .ensures)) ∙ utm-place _ (s .args .letter))
+    rw (utm t) ((rw (f .utm-first .ensures, e, utm-is _) at (c .place-in .ensures)) ∙ run-place _ (s .args .letter))
 
 returns-2 : tie.Need-returns-2
 unfolding columnsOf
@@ -80,7 +70,7 @@ returns-2 c =
     let t = f .before in
     let s = t .before .before .before in
     let k = sym (grid (t .before .before)) ∙ t .enum-told2 .given .1 in
-    rw k ((rw (n .ups-count .ensures, f .ups-first .ensures) at (c .place-in2 .ensures)) ∙ ups-place (s .args .band) (s .args .letter))
+    rw k ((rw (n .ups-count .ensures, f .ups-first .ensures, ups-is _) at (c .place-in2 .ensures)) ∙ run-place _ (s .args .letter))
 
 returns-3 : tie.Need-returns-3
 unfolding columnsOf placeOf placeFrom

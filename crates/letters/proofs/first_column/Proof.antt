@@ -6,8 +6,7 @@ use Prim.Native.Nat.{ℕ}
 use mir.Facts.{toZ-ofZ}
 use borrow.Author.Needs.{needs}
 use lib.Dec.{eqb}
-use Rattle.letters.specs.declared.LetterSet.the-variants.{UtmColumns0, UtmColumns1, UtmColumns2}
-use Rattle.letters.specs.Letters.{firstTile}
+use Rattle.letters.specs.Letters.{UtmColumns0, UtmColumns1, UtmColumns2, firstTile}
 use Rattle.letters.specs.Sets.{gridOf, utmColumns, columnsOf}
 use Rattle.letters.proofs.first_column.Statement.{statement}
 use Rattle.letters.proofs.first_column.Tie as tie

@@ -1,8 +1,9 @@
 -- `letters::place_in` meets its contract: the tests are the definition's.
 -- Assumes nothing.
+use mathlib.Core.Path.{_≡_, ap, _∙_}
+use native.Mathlib.Omega.{arith}
 use borrow.Author.Needs.{needs}
 use borrow.Author.Tests.{lt-ltb, le-ltb}
-use mathlib.Core.Path.{_≡_, ap, _∙_}
 use Rattle.letters.specs.Tables.{inRun, placeIn}
 use Rattle.letters.proofs.place_in.Statement.{statement}
 use Rattle.letters.proofs.place_in.Tie as tie
@@ -22,7 +23,7 @@ code-in-requires : tie.Need-code-in-requires
 code-in-requires c κs = search needs
 
 in-run-requires : tie.Need-in-run-requires
-in-run-requires c κs = c .before .before .before .pre
+in-run-requires c κs = let h = c .before .before .before .pre in (omega (arith, h .0, h .1), omega (arith, h .0, h .1))
 
 returns-3 : tie.Need-returns-3
 unfolding placeIn

@@ -1,17 +1,13 @@
 -- `letters::row_place` meets its contract: the runs are those of the grid's sets.
 -- Assumes nothing.
-use mathlib.Core.Path.{_≡_, refl, sym, _∙_}
-use mathlib.Core.Bool.{Bool, true, false, cond}
-use Prim.Native.Nat.{ℕ, _≤_}
+use mathlib.Core.Path.{_≡_, sym, _∙_}
 use lib.Dec.{lit≤}
 use mir.Facts.{toZ-ofZ}
 use borrow.Author.Needs.{needs}
-use Rattle.letters.specs.declared.LetterSet.the-variants.{UtmRows, UpsRowsNorth, UpsRowsSouth}
-use Rattle.letters.specs.declared.Grid.the-variants.{Utm}
-use Rattle.letters.specs.Letters.{placeFrom, placeOf}
+use Rattle.letters.specs.Letters.{UtmRows, placeOf, placeFrom}
 use Rattle.letters.specs.Sets.{gridOf, rowsOf}
-use Rattle.letters.specs.Tables.{placeIn, runOf}
-use Rattle.letters.proofs.Runs.{run-place}
+use Rattle.letters.specs.Tables.{runOf}
+use Rattle.letters.proofs.Runs.{run-place, rows-is, rows-small}
 use Rattle.letters.proofs.row_place.Statement.{statement}
 use Rattle.letters.proofs.row_place.Tie as tie
 
@@ -33,16 +29,11 @@ enum-told-3 c = search needs
 place-in-requires : tie.Need-place-in-requires
 place-in-requires c κs = (lit≤ tt, lit≤ tt)
 
--- both hemispheres' rows are a run of at most 24
-few : (north : Bool) → cond north 14 24 ≤ 24
-few true = lit≤ tt
-few false = lit≤ tt
-
-place-in-requires-2 : tie.Need-place-in-requires-2
-place-in-requires-2 c κs = rw (c .ups-rows .ensures) (lit≤ tt, few (c .before .before .before .before .args .north))
-
 ups-rows-requires : tie.Need-ups-rows-requires
 ups-rows-requires c κs = search needs
+
+place-in-requires-2 : tie.Need-place-in-requires-2
+place-in-requires-2 c κs = rw (c .ups-rows .ensures) (rows-small (c .before .before .before .before .args .north))
 
 returns : tie.Need-returns
 unfolding rowsOf runOf
@@ -51,12 +42,6 @@ returns c =
     let k = sym (grid (t .before .before)) ∙ t .enum-told .given .1 in
     rw k (c .place-in .ensures ∙ run-place UtmRows (t .before .before .before .args .letter))
 
--- both hemispheres begin at A
-both : (north : Bool) (b : ℕ) → placeIn 0 97 (cond north 14 24) b ≡ placeOf (cond north UpsRowsNorth UpsRowsSouth) b
-unfolding runOf
-both true b = run-place UpsRowsNorth b
-both false b = run-place UpsRowsSouth b
-
 returns-2 : tie.Need-returns-2
 unfolding rowsOf
 returns-2 c =
@@ -64,7 +49,7 @@ returns-2 c =
     let t = u .before in
     let s = t .before .before .before in
     let k = sym (grid (t .before .before)) ∙ t .enum-told2 .given .1 in
-    rw k ((rw (u .ups-rows .ensures) at (c .place-in2 .ensures)) ∙ both (s .args .north) (s .args .letter))
+    rw k ((rw (u .ups-rows .ensures, rows-is (s .args .north)) at (c .place-in2 .ensures)) ∙ run-place _ (s .args .letter))
 
 returns-3 : tie.Need-returns-3
 unfolding rowsOf placeOf placeFrom

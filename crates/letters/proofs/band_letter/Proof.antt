@@ -1,0 +1,55 @@
+-- `letters::band_letter` meets its contract: the runs are those of the grid's sets.
+-- Assumes nothing.
+use mathlib.Core.Path.{_≡_, refl, sym, _∙_}
+use lib.Dec.{lit≤}
+use mir.Facts.{toZ-ofZ}
+use borrow.Author.Needs.{needs}
+use Rattle.letters.specs.Letters.{UtmBands, UpsBands, letterAt}
+use Rattle.letters.specs.declared.Grid.the-variants.{Utm}
+use Rattle.letters.specs.Sets.{gridOf, bandsOf}
+use Rattle.letters.specs.Tables.{runOf}
+use Rattle.letters.proofs.Runs.{run-letter}
+use Rattle.letters.proofs.band_letter.Statement.{statement}
+use Rattle.letters.proofs.band_letter.Tie as tie
+
+grid : (c : tie.After-grid-of) → c .grid-of .result ≡ gridOf (c .before .args .zone)
+grid c = rw (toZ-ofZ (c .before .fits .zone)) at (c .grid-of .ensures)
+
+grid-of-requires : tie.Need-grid-of-requires
+grid-of-requires c κs = search needs
+
+enum-told : tie.Need-enum-told
+enum-told c = search needs
+
+enum-told-2 : tie.Need-enum-told-2
+enum-told-2 c = search needs
+
+enum-told-3 : tie.Need-enum-told-3
+enum-told-3 c = search needs
+
+letter-in-requires : tie.Need-letter-in-requires
+letter-in-requires c κs = (lit≤ tt, lit≤ tt)
+
+letter-in-requires-2 : tie.Need-letter-in-requires-2
+letter-in-requires-2 c κs = (lit≤ tt, lit≤ tt)
+
+returns : tie.Need-returns
+unfolding bandsOf runOf
+returns c =
+    let t = c .before in
+    let k = sym (grid (t .before .before)) ∙ t .enum-told .given .1 in
+    rw k (c .letter-in .ensures ∙ run-letter UtmBands (t .before .before .before .args .place))
+
+returns-2 : tie.Need-returns-2
+unfolding bandsOf runOf
+returns-2 c =
+    let t = c .before in
+    let k = sym (grid (t .before .before)) ∙ t .enum-told2 .given .1 in
+    rw k (c .letter-in2 .ensures ∙ run-letter UpsBands (t .before .before .before .args .place))
+
+returns-3 : tie.Need-returns-3
+unfolding bandsOf letterAt
+returns-3 c = let k = sym (grid (c .before .before)) ∙ c .enum-told3 .given .1 in rw k
+
+pub band-letter-spec : {M : Type 1} → statement M
+band-letter-spec = tie.close (tie.spec grid-of-requires enum-told letter-in-requires enum-told-2 letter-in-requires-2 enum-told-3 returns returns-2 returns-3)
