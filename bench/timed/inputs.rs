@@ -11,6 +11,7 @@ const FIXED: &str = "18TWL8566411131";
 
 /// The rows that the goals are about.
 pub const MIXED: &str = "UTM, 5+5, mixed";
+pub const POLAR: &str = "UPS, 5+5, mixed";
 pub const MIXTURE: &str = "refused, 1 to 13 mixed";
 
 /// The texts of one row of a table. `compared`: the Rust's answer is one that ours has to equal.
@@ -104,7 +105,7 @@ pub fn sound_cases(rng: &mut Rng) -> Vec<Case> {
     let mixed = case(MIXED, |_| sound(rng, false, 5));
     let small = case("UTM, 5+5, small letters", |k| mixed.texts[k].to_ascii_lowercase());
     let mut cases = vec![case(FIXED, |_| FIXED.to_string()), mixed, small];
-    cases.push(case("UPS, 5+5, mixed", |_| sound(rng, true, 5)));
+    cases.push(case(POLAR, |_| sound(rng, true, 5)));
     for p in [0, 2, 7, 11] {
         cases.push(case(&format!("UTM, {p}+{p}, mixed"), |_| sound(rng, false, p)));
     }

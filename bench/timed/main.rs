@@ -22,7 +22,7 @@ mod theirs;
 
 use checks::Wrong;
 use clock::{measure, Figure, Plan};
-use inputs::{Case, MIXED, MIXTURE};
+use inputs::{Case, MIXED, MIXTURE, POLAR};
 use points::{Apart, Jobs};
 use report::{Goal, Table};
 use rng::Rng;
@@ -108,10 +108,14 @@ fn loop_alone(plan: Plan, case: &Case) {
 /// The goals, by the rows that they are about: reading and writing 5+5, and the mixture of refusals.
 fn goals(sound: &Rows, refused: &Rows, written: &Rows) -> String {
     let (read, write, mixture) = (&sound[MIXED], &written[MIXED], &refused[MIXTURE]);
+    let (polar, written_polar) = (&sound[POLAR], &written[POLAR]);
     let goals = [
         Goal { what: "reading 5+5", ours: &read[0], rust: &read[2], most: 0.5 },
         Goal { what: "reading 5+5 in metres", ours: &read[1], rust: &read[2], most: 0.5 },
         Goal { what: "writing 5+5", ours: &write[0], rust: &write[1], most: 0.5 },
+        Goal { what: "reading 5+5 of UPS", ours: &polar[0], rust: &polar[2], most: 0.5 },
+        Goal { what: "reading 5+5 of UPS in metres", ours: &polar[1], rust: &polar[2], most: 0.5 },
+        Goal { what: "writing 5+5 of UPS", ours: &written_polar[0], rust: &written_polar[1], most: 0.5 },
         Goal { what: "refusing, 1 to 13 mixed", ours: &mixture[0], rust: &mixture[2], most: 0.25 },
         Goal { what: "refusing, 1 to 13 mixed, in metres", ours: &mixture[1], rust: &mixture[2], most: 0.25 },
     ];

@@ -1,5 +1,5 @@
--- How the program's own tables are laid out. No public answer speaks of this: that it gives the place in the set is proved.
--- Assumes nothing.
+-- How the program's own tables are laid out. No public answer speaks of this: that it gives the sets' places and letters is
+-- proved. Assumes nothing.
 use mathlib.Core.Bool.{cond}
 use mathlib.Core.List.{List}
 use Prim.Native.Nat.{ℕ, _+_, _-_}
