@@ -2,7 +2,7 @@
 use mathlib.Core.Path.{_≡_, refl, sym, ap, _∙_}
 use mathlib.Core.Bool.{Bool, true, false, cond}
 use Prim.Native.Nat.{ℕ, _+_, _-_, _*_, _/_, _%_, _^_, _≤_, _<_}
-use native.Mathlib.Nat.{mul-assoc, mul-comm, mul-le-mul, mul-div-mul-right, mod-lt, pow-le-pow-right, le-of-lt, zero-lt-suc}
+use native.Mathlib.Nat.{mul-assoc, mul-le-mul, mul-div-mul-right, mod-lt, pow-le-pow-right, le-of-lt, zero-lt-suc}
 use native.Mathlib.Omega.{arith}
 use borrow.Author.Tests.{ltb-false}
 use lib.Dec.{ltb, lit<}

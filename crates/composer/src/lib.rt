@@ -112,8 +112,8 @@ pub enum Composed {
     Refused(u64),
 }
 
-// The digits of one axis, cut: what is left of a tile, by the side of a square. Both are made greater by a power of ten, and
-// the side a constant: to divide by any other number takes several times as long.
+// The digits of one axis, cut: what is left of a tile, by the side of a square. Both are made greater by the power of ten that
+// makes the side a constant: a division by a number that is not known beforehand is no multiplication.
 fn cut_of(p: i64, x: u64) -> u64
     requires { ⌜ 0 < sideLength p ⌝ }
     ensures { λ r. ⌜ r ≡ cutOf p x ⌝ }

@@ -1,7 +1,7 @@
 -- The sets by a number each, so that one computation covers all of them. Assumes nothing.
 use mathlib.Core.Path.{_≡_, refl, subst}
 use mathlib.Core.Bool.{Bool}
-use mathlib.Core.List.{List, [], _∷_}
+use mathlib.Core.List.{[], _∷_}
 use Prim.Native.Nat.{ℕ, _<_}
 use lib.Dec.{T, lit<}
 use lib.ListN.{getD}

@@ -1,11 +1,10 @@
 -- `composer::cut_of` meets its contract: each of the two divisions is the one by the square's side.
 -- Assumes nothing.
-use mathlib.Core.Path.{_≡_, sym, ap, _∙_}
-use Prim.Native.Nat.{ℕ, _+_, _-_, _%_, _/_, _≤_}
+use mathlib.Core.Path.{_≡_}
+use Prim.Native.Nat.{_+_, _-_, _%_, _≤_}
 use native.Mathlib.Omega.{arith}
 use mir.Facts.{toZ-ofZ}
 use borrow.Author.Needs.{needs}
-use lib.IntN.{ℤ}
 use Rattle.whole.specs.Floor.{fold}
 use Rattle.position.specs.Squares.{sideLength}
 use Rattle.composer.specs.Compose.{cutOf}

@@ -1,11 +1,10 @@
 -- `letters::band_letter` meets its contract: the runs are those of the grid's sets.
 -- Assumes nothing.
-use mathlib.Core.Path.{_≡_, refl, sym, _∙_}
+use mathlib.Core.Path.{_≡_, sym, _∙_}
 use lib.Dec.{lit≤}
 use mir.Facts.{toZ-ofZ}
 use borrow.Author.Needs.{needs}
 use Rattle.letters.specs.Letters.{UtmBands, UpsBands, letterAt}
-use Rattle.letters.specs.declared.Grid.the-variants.{Utm}
 use Rattle.letters.specs.Sets.{gridOf, bandsOf}
 use Rattle.letters.specs.Tables.{runOf}
 use Rattle.letters.proofs.Runs.{run-letter}

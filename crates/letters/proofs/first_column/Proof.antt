@@ -1,6 +1,6 @@
 -- `letters::first_column` meets its contract, by what `grid_of` ensures and by the sets' first tiles.
 -- Assumes nothing.
-use mathlib.Core.Path.{_≡_, refl, sym, ap, _∙_}
+use mathlib.Core.Path.{_≡_, refl, sym, _∙_}
 use mathlib.Core.Bool.{Bool, true, false, cond}
 use Prim.Native.Nat.{ℕ}
 use mir.Facts.{toZ-ofZ}

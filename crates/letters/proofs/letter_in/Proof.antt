@@ -1,6 +1,5 @@
 -- `letters::letter_in` meets its contract: the test is the definition's.
 -- Assumes nothing.
-use mathlib.Core.Path.{_≡_}
 use native.Mathlib.Omega.{arith}
 use borrow.Author.Tests.{le-leb, lt-leb}
 use borrow.Author.Needs.{needs}

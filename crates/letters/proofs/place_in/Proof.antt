@@ -1,10 +1,9 @@
 -- `letters::place_in` meets its contract: the tests are the definition's.
 -- Assumes nothing.
-use mathlib.Core.Path.{_≡_, ap, _∙_}
 use native.Mathlib.Omega.{arith}
 use borrow.Author.Needs.{needs}
 use borrow.Author.Tests.{lt-ltb, le-ltb}
-use Rattle.letters.specs.Tables.{inRun, placeIn}
+use Rattle.letters.specs.Tables.{placeIn}
 use Rattle.letters.proofs.place_in.Statement.{statement}
 use Rattle.letters.proofs.place_in.Tie as tie
 
