@@ -120,6 +120,8 @@ def hostile():
     yield from (b"18TWL1234\x80", b"\xff18T", b"INV\x80", b"18TWL12\xc3\xa9", b"\xc3\x8918T")
     # a high byte at each place of texts around eight and around sixteen bytes
     yield from (b"1" * k + b"\x80" + b"1" * (n - 1 - k) for n in (7, 8, 9, 15, 16, 17) for k in range(n))
+    # and a byte that is no digit at each place of so many digits
+    yield from (b"18TWL" + b"1" * k + other + b"1" * (n - 1 - k) for n in (7, 8, 9, 10, 15, 16, 17, 22) for k in range(n) for other in (b"/", b":", b"X"))
     yield from (b"18TWL" + b"1" * n for n in (58, 59, 60, 61))
     yield from (b"x" * n for n in (63, 64, 65, 66, 127, 128, 129, 4096))
     yield b"9" * 10000

@@ -91,10 +91,10 @@ unfolding letterAt
 past-end set k h = List·getD-eq-default (lettersOf set) 0 (le-trans (size-le set) h)
 
 -- all letters are capitals: a byte outside A to Z, 65 to 90, is in no set
-abbrev isCapital : ℕ → Bool
+abbrev pub isCapital : ℕ → Bool
 isCapital x = leb 65 x && leb x 90
 
-not-in : (i : ℕ) (xs : List ℕ) (b : ℕ) → T (every isCapital xs) → ((65 ≤ b → b ≤ 90 → ⊥)) → placeFrom i xs b ≡ NotInSet
+pub not-in : (i : ℕ) (xs : List ℕ) (b : ℕ) → T (every isCapital xs) → ((65 ≤ b → b ≤ 90 → ⊥)) → placeFrom i xs b ≡ NotInSet
 unfolding placeFrom
 not-in i [] b t h = refl
 not-in i (x ∷ xs) b t h =

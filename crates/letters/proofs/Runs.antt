@@ -1,18 +1,18 @@
 -- A place in a set's run is the place in the set, and its letter the set's: one computation each over all sets. Assumes nothing.
-use mathlib.Core.Path.{_≡_, refl, sym, ap, _∙_}
+use mathlib.Core.Path.{_≡_, refl, sym, ap, subst, _∙_}
 use mathlib.Core.Bool.{Bool, true, false, cond, _&&_}
 use Prim.Native.Nat.{ℕ, _+_, _-_, _≤_, _<_}
 use native.Mathlib.Omega.{arith}
-use borrow.Author.Tests.{ltb-true, ltb-false, leb-true, leb-false, le-leb, ne-eqb}
+use borrow.Author.Tests.{ltb-true, ltb-false, leb-true, leb-false, lt-ltb, le-ltb, le-leb}
 use lib.Dec.{T, eqb, leb, ltb, eqb→eq, leb→le, lit≤}
 use mir.Facts.{and-yes}
-use Rattle.whole.proofs.Table.{all, each}
-use Rattle.letters.specs.Letters.{LetterSet, placeFrom, placeOf, letterAt}
+use Rattle.whole.proofs.Table.{all, each, every, alike}
+use Rattle.letters.specs.Letters.{LetterSet, UpsBands, placeFrom, placeOf, byPlace, letterAt, firstTile}
 use Rattle.letters.specs.declared.Place.{Place}
 use Rattle.letters.specs.declared.Place.the-variants.{At, NotInSet}
-use Rattle.letters.specs.Sets.{utmColumns, upsColumns}
-use Rattle.letters.specs.Tables.{codeIn, inRun, placeIn, letterOf, letterIn, Run, run, runOf}
-use Rattle.letters.proofs.Laws.{no-capital, past-end}
+use Rattle.letters.specs.Sets.{utmColumns, upsColumns, northBand}
+use Rattle.letters.specs.Tables.{lettersIn, inAlphabet, coded, skippedOf, inRun, within, placeIn, letterOf, letterIn, Run, run, runOf}
+use Rattle.letters.proofs.Laws.{isCapital, not-in, no-capital, past-end}
 use Rattle.letters.proofs.Sets.{setAt, for-all}
 
 -- two places are the same
@@ -28,34 +28,66 @@ same→eq (At j) NotInSet t = absurd t
 same→eq NotInSet (At k) t = absurd t
 same→eq NotInSet NotInSet t = refl
 
--- the i-th letter after A, in a set's run
-abbrev inSet : LetterSet → ℕ → Place
-inSet set i = inRun (codeIn (runOf set .alphabet) i) (runOf set .first) (runOf set .count)
+-- all letters of an alphabet are capitals
+capitals : (n : ℕ) (t u : Bool) → eqb n 0 ≡ t → eqb n 1 ≡ u → T (every isCapital (lettersIn n))
+capitals n true u e f = rw e tt
+capitals n false true e f = rw (e, f) tt
+capitals n false false e f = rw (e, f) tt
 
-abbrev agrees : LetterSet → Bool
-agrees set = all 26 (λ i. same (inSet set i) (placeOf set (65 + i)))
+pub no-letter : (n b : ℕ) → (65 ≤ b → b ≤ 90 → ⊥) → inAlphabet n b ≡ NotInSet
+unfolding inAlphabet
+no-letter n b h = not-in 0 (lettersIn n) b (capitals n (eqb n 0) (eqb n 1) refl refl) h
 
-all-agree : T (all 13 (λ n. agrees (setAt n)))
-unfolding inRun codeIn runOf placeOf placeFrom
+abbrev agree : LetterSet → ℕ → Bool
+agree set i = same (placeIn (runOf set) (65 + i)) (placeOf set (65 + i))
+
+all-agree : T (all 13 (λ n. all 26 (agree (setAt n))))
+unfolding placeIn inAlphabet inRun runOf placeOf placeFrom
 all-agree = tt
 
-capital : (set : LetterSet) (b : ℕ) → (b < 65 → ⊥) → (90 < b → ⊥) → inSet set (b - 65) ≡ placeOf set b
+capital : (set : LetterSet) (b : ℕ) → (b < 65 → ⊥) → (90 < b → ⊥) → placeIn (runOf set) b ≡ placeOf set b
 capital set b l h =
     let e : 65 + (b - 65) ≡ b = omega (arith, l) in
-    same→eq _ _ (each 26 (λ i. same (inSet set i) (placeOf set (65 + i))) (for-all agrees all-agree set) (b - 65) (omega (arith, l, h)))
-    ∙ ap (placeOf set) e
+    subst (λ (b : ℕ). placeIn (runOf set) b ≡ placeOf set b) e
+    (same→eq _ _ (each 26 (agree set) (for-all (λ set. all 26 (agree set)) all-agree set) (b - 65) (omega (arith, l, h))))
 
-by-tests : (set : LetterSet) (b : ℕ) (t u : Bool) → ltb b 65 ≡ t → ltb 90 b ≡ u → cond t NotInSet (cond u NotInSet (inSet set (b - 65))) ≡ placeOf set b
-by-tests set b true u e f = let h = ltb-true b 65 e in sym (no-capital set b (λ p q. omega arith))
-by-tests set b false true e f = let h = ltb-true 90 b f in sym (no-capital set b (λ p q. omega arith))
+outside : (set : LetterSet) (b : ℕ) → (65 ≤ b → b ≤ 90 → ⊥) → placeIn (runOf set) b ≡ placeOf set b
+unfolding placeIn
+outside set b h = rw (no-letter (runOf set .alphabet) b h) (sym (no-capital set b h))
+
+by-tests : (set : LetterSet) (b : ℕ) (t u : Bool) → ltb b 65 ≡ t → ltb 90 b ≡ u → placeIn (runOf set) b ≡ placeOf set b
+by-tests set b true u e f = let h = ltb-true b 65 e in outside set b (λ p q. omega arith)
+by-tests set b false true e f = let h = ltb-true 90 b f in outside set b (λ p q. omega arith)
 by-tests set b false false e f =
     let l = ltb-false b 65 e in
     let h = ltb-false 90 b f in
     capital set b (λ x. omega arith) (λ x. omega arith)
 
 pub run-place : (set : LetterSet) (b : ℕ) → placeIn (runOf set) b ≡ placeOf set b
-unfolding placeIn
 run-place set b = by-tests set b (ltb b 65) (ltb 90 b) refl refl
+
+-- a byte is in a run exactly as the place that it is the code of: codes outside a to x are outside every run
+module _ (x f n : ℕ) (low : 97 ≤ f) (high : f + n ≤ 121) where
+  by-code : (t u : Bool) → ltb x 97 ≡ t → ltb 120 x ≡ u → inRun x f n ≡ within f n (coded x)
+  unfolding inRun coded
+  by-code true u e g = let h = ltb-true x 97 e in rw (e, lt-ltb x f (omega arith))
+  by-code false true e g =
+      let h = ltb-true 120 x g in
+      rw (e, g, le-ltb x f (omega arith), le-leb n (x - f) (omega arith))
+  by-code false false e g = let h = ltb-false x 97 e in let k : 97 + (x - 97) ≡ x = omega arith in rw (e, g, k)
+
+  pub run-code : inRun x f n ≡ within f n (coded x)
+  run-code = by-code (ltb x 97) (ltb 120 x) refl refl
+
+-- at most two letters are left out before one
+skipped-by : (t u : Bool) → cond t 0 (cond u 1 2) ≤ 2
+skipped-by true u = lit≤ tt
+skipped-by false true = lit≤ tt
+skipped-by false false = lit≤ tt
+
+pub skipped-le : (b : ℕ) → skippedOf b ≤ 2
+unfolding skippedOf
+skipped-le b = skipped-by (ltb b 73) (ltb b 79)
 
 -- every run has its letters' codes from a to x
 abbrev small : LetterSet → Bool
@@ -132,8 +164,11 @@ pub rows-small : (north : Bool) → (97 ≤ 97) × (97 + cond north 14 24 ≤ 12
 rows-small true = (lit≤ tt, lit≤ tt)
 rows-small false = (lit≤ tt, lit≤ tt)
 
--- a byte outside A to Z is no UPS band
-pub no-columns : (b : ℕ) → (65 ≤ b → b ≤ 90 → ⊥) → upsColumns b ≡ setAt 0
-unfolding upsColumns
-no-columns b n =
-    rw (ne-eqb b 65 (λ e. n (omega arith) (omega arith)), ne-eqb b 66 (λ e. n (omega arith) (omega arith)), ne-eqb b 89 (λ e. n (omega arith) (omega arith)), ne-eqb b 90 (λ e. n (omega arith) (omega arith)))
+-- how many columns a UPS band has and where they begin, by the band's side and letter: a byte that is no band has none
+pub count-of : (b : ℕ) → b < 256 → runOf (upsColumns b) .count ≡ byPlace (placeOf UpsBands b) 0 (λ k. cond (northBand b) 7 12)
+unfolding runOf upsColumns placeOf placeFrom
+count-of b h = alike (λ b. runOf (upsColumns b) .count) (λ b. byPlace (placeOf UpsBands b) 0 (λ k. cond (northBand b) 7 12)) 256 refl 0 b h
+
+pub tile-of : (b : ℕ) → b < 256 → firstTile (upsColumns b) ≡ byPlace (placeOf UpsBands b) 0 (λ k. cond (eqb b 65) 8 (cond (eqb b 89) 13 20))
+unfolding firstTile upsColumns placeOf placeFrom
+tile-of b h = alike (λ b. firstTile (upsColumns b)) (λ b. byPlace (placeOf UpsBands b) 0 (λ k. cond (eqb b 65) 8 (cond (eqb b 89) 13 20))) 256 refl 0 b h

@@ -8,6 +8,7 @@ use lib.Dec.{eqb, leb, ltb}
 use lib.ListN.{getD}
 use Rattle.whole.specs.Text.{bytes}
 use Rattle.letters.specs.Letters.{LetterSet, NoLetters, UtmBands, UpsBands, UtmColumns0, UtmColumns1, UtmColumns2, UtmRows, UpsColumnsA, UpsColumnsB, UpsColumnsY, UpsColumnsZ, UpsRowsSouth, UpsRowsNorth, placeFrom}
+use Rattle.letters.specs.Sets.{northBand}
 use Rattle.letters.specs.declared.Place.{Place}
 use Rattle.letters.specs.declared.Place.the-variants.{At, NotInSet}
 
@@ -15,14 +16,21 @@ use Rattle.letters.specs.declared.Place.the-variants.{At, NotInSet}
 abbrev pub lettersIn : ℕ → List ℕ
 lettersIn n = cond (eqb n 0) (bytes "ABCDEFGHJKLMNPQRSTUVWXYZ") (cond (eqb n 1) (bytes "ABCFGHJKLPQRSTUXYZ") (bytes "ABYZ"))
 
--- A place as a byte of the table: a for 0, b for 1 and so on, a dot for none.
-abbrev pub codeOf : Place → ℕ
-codeOf (At k) = code "a" + k
-codeOf NotInSet = code "."
+-- Where a letter stands in an alphabet.
+unfoldable pub inAlphabet : ℕ → ℕ → Place
+inAlphabet n b = placeFrom 0 (lettersIn n) b
 
--- What an alphabet's table holds of the letter that stands i letters after A.
-unfoldable pub codeIn : ℕ → ℕ → ℕ
-codeIn n i = codeOf (placeFrom 0 (lettersIn n) (code "A" + i))
+-- A place as a byte: a for 0, b for 1 and so on to x; any other byte is none.
+unfoldable pub coded : ℕ → Place
+coded x = cond (ltb x (code "a")) NotInSet (cond (ltb (code "x") x) NotInSet (At (x - code "a")))
+
+-- How many of I and O come before a letter.
+unfoldable pub skippedOf : ℕ → ℕ
+skippedOf b = cond (ltb b (code "I")) 0 (cond (ltb b (code "O")) 1 2)
+
+-- The first UPS band of the north or of the south.
+abbrev pub firstBand : ℕ → ℕ
+firstBand b = cond (northBand b) (code "Y") (code "A")
 
 -- The place of a code in a run of so many from the first on.
 unfoldable pub inRun : ℕ → ℕ → ℕ → Place
@@ -37,11 +45,13 @@ pub record Run : Type 0 where
 abbrev pub run : ℕ → ℕ → ℕ → Run
 run alphabet first count = record { alphabet = alphabet; first = first; count = count }
 
--- Where a byte stands in a run: nowhere, if it is no capital.
+-- Where in a run a place of its alphabet is, and where a byte stands in a run: nowhere, if it is in no place of the alphabet.
+abbrev pub within : ℕ → ℕ → Place → Place
+within first count (At k) = inRun (code "a" + k) first count
+within first count NotInSet = NotInSet
+
 unfoldable pub placeIn : Run → ℕ → Place
-placeIn run b =
-    cond (ltb b (code "A")) NotInSet
-    (cond (ltb (code "Z") b) NotInSet (inRun (codeIn (run .alphabet) (b - code "A")) (run .first) (run .count)))
+placeIn run b = within (run .first) (run .count) (inAlphabet (run .alphabet) b)
 
 -- The letter at a place of an alphabet, and at a place of a run, 0 past its end.
 unfoldable pub letterOf : ℕ → ℕ → ℕ

@@ -1,9 +1,9 @@
 // The letters of document 01: which set a zone and a band use, and where in it a letter stands.
 ghost use mathlib.Core.Path.{_≡_};
 ghost use mathlib.Core.Bool.{cond};
-ghost use Rattle.letters.specs.Letters.{capitalOf, placeOf, letterAt, firstTile};
+ghost use Rattle.letters.specs.Letters.{UpsBands, capitalOf, placeOf, letterAt, firstTile};
 ghost use Rattle.letters.specs.Sets.{gridOf, bandsOf, utmColumns, upsColumns, columnsOf, rowsOf, northBand, eastBand};
-ghost use Rattle.letters.specs.Tables.{run, runOf, codeIn, inRun, placeIn, letterOf, letterIn};
+ghost use Rattle.letters.specs.Tables.{inAlphabet, coded, skippedOf, firstBand, run, runOf, inRun, placeIn, letterOf, letterIn};
 ghost use Prim.Native.Nat.{_<_, _≤_, _+_};
 
 // Where a letter stands in a set, if it does.
@@ -21,12 +21,8 @@ const COLUMN_LETTERS: [u8; 24] = *b"ABCFGHJKLPQRSTUXYZ\0\0\0\0\0\0";
 
 const BAND_LETTERS: [u8; 24] = *b"ABYZ\0\0\0\0\0\0\0\0\0\0\0\0\0\0\0\0\0\0\0\0";
 
-// And letter to place: under each of A to Z stands its place there, a for 0, b for 1 and so on, or a dot.
-const ALL_CODES: [u8; 26] = *b"abcdefgh.ijklm.nopqrstuvwx";
-
+// And letter to place, where no sum tells it: under each of A to Z stands its place there, a for 0, b for 1 and so on, or a dot.
 const COLUMN_CODES: [u8; 26] = *b"abc..def.ghi...jklmno..pqr";
-
-const BAND_CODES: [u8; 26] = *b"ab......................cd";
 
 // a-z count as A-Z.
 pub fn capital(b: u8) -> u8
@@ -41,19 +37,81 @@ pub fn capital(b: u8) -> u8
     b - 32
 }
 
-// ---- in a run: its alphabet, 0 to 2 in the order above, the code of its first letter, and how many letters it has
+// ---- in an alphabet, 0 to 2 in the order above: the code of a letter's place, a to x, or any other byte for none
 
-// What the alphabet's table holds of the letter that stands `index` letters after A.
-fn code_in(alphabet: u8, index: usize) -> u8
-    requires { ⌜ index < 26 ⌝ }
-    ensures { λ r. ⌜ r ≡ codeIn alphabet index ⌝ }
+// How many letters before this one are left out of the first alphabet: I and O.
+fn skipped(letter: u8) -> u8
+    ensures { λ r. ⌜ r ≡ skippedOf letter ⌝ }
+{
+    if letter < b'I' {
+        return 0;
+    }
+    if letter < b'O' {
+        return 1;
+    }
+    2
+}
+
+// A sum costs less than a table. What is no capital is moved like one, to a byte that is no code.
+fn all_code(letter: u8) -> u8
+    ensures { λ r. ⌜ coded r ≡ inAlphabet 0 letter ⌝ }
+{
+    if letter == b'I' {
+        return b'.';
+    }
+    if letter == b'O' {
+        return b'.';
+    }
+    ((letter as u64 + 32 - skipped(letter) as u64) % 256) as u8
+}
+
+fn column_code(letter: u8) -> u8
+    ensures { λ r. ⌜ coded r ≡ inAlphabet 1 letter ⌝ }
+{
+    if letter < b'A' {
+        return b'.';
+    }
+    if b'Z' < letter {
+        return b'.';
+    }
+    COLUMN_CODES[(letter - b'A') as usize]
+}
+
+// The first of the two UPS bands on a letter's side of the equator.
+fn first_band(letter: u8) -> u8
+    ensures { λ r. ⌜ r ≡ firstBand letter ⌝ }
+{
+    if is_north(letter) {
+        return b'Y';
+    }
+    b'A'
+}
+
+// A branch on the band itself would cost more: half of all references would take it either way.
+fn band_code(letter: u8) -> u8
+    ensures { λ r. ⌜ coded r ≡ inAlphabet 2 letter ⌝ }
+{
+    let k = (letter as u64 + 256 - first_band(letter) as u64) % 256;
+    if 2 <= k {
+        return b'.';
+    }
+    if is_north(letter) {
+        return b'c' + k as u8;
+    }
+    b'a' + k as u8
+}
+
+fn code_in(alphabet: u8, letter: u8) -> u8
+    ensures { λ r. ⌜ coded r ≡ inAlphabet alphabet letter ⌝ }
 {
     match alphabet {
-        0 => ALL_CODES[index],
-        1 => COLUMN_CODES[index],
-        _ => BAND_CODES[index],
+        0 => all_code(letter),
+        1 => column_code(letter),
+        _ => band_code(letter),
     }
 }
+
+// ---- in a run: its alphabet, the code of its first letter, and how many letters it has
 
 // The place in a run. One test serves both ends: what comes before the first, as a dot does, is turned to the end of the byte.
 fn in_run(code: u8, first: u8, count: u8) -> Place
@@ -68,18 +126,12 @@ fn in_run(code: u8, first: u8, count: u8) -> Place
     Place::At(place)
 }
 
-// Where a capital stands in a run; a small letter stands in none.
+// Where a letter stands in a run; what is no capital stands in none.
 fn place_in(alphabet: u8, first: u8, count: u8, letter: u8) -> Place
     requires { ⌜ (97 ≤ first) × (first + count ≤ 121) ⌝ }
     ensures { λ r. ⌜ r ≡ placeIn (run alphabet first count) letter ⌝ }
 {
-    if letter < b'A' {
-        return Place::NotInSet;
-    }
-    if b'Z' < letter {
-        return Place::NotInSet;
-    }
-    in_run(code_in(alphabet, (letter - b'A') as usize), first, count)
+    in_run(code_in(alphabet, letter), first, count)
 }
 
 // The letter that stands at a place of an alphabet.
@@ -130,13 +182,20 @@ pub fn grid_of(zone: i64) -> Grid
     Grid::Utm
 }
 
+// The place of a UPS band.
+fn ups_band(letter: u8) -> Place
+    ensures { λ r. ⌜ r ≡ placeOf UpsBands letter ⌝ }
+{
+    place_in(2, b'a', 4, letter)
+}
+
 // The place of a band's letter.
 pub fn band_place(zone: i64, letter: u8) -> Place
     ensures { λ r. ⌜ r ≡ placeOf (bandsOf zone) letter ⌝ }
 {
     match grid_of(zone) {
         Grid::Utm => place_in(0, b'c', 20, letter),
-        Grid::Ups => place_in(2, b'a', 4, letter),
+        Grid::Ups => ups_band(letter),
         Grid::NoZone => Place::NotInSet,
     }
 }
@@ -175,21 +234,17 @@ fn ups_first(band: u8) -> u8
     }
 }
 
-// How many columns a UPS band has, and the tile of the first, under each of A to Z: a branch on the band would cost more.
-const UPS_COUNTS: [u8; 26] = *b"\x0c\x0c\0\0\0\0\0\0\0\0\0\0\0\0\0\0\0\0\0\0\0\0\0\0\x07\x07";
-
-const UPS_TILES: [u8; 26] = *b"\x08\x14\0\0\0\0\0\0\0\0\0\0\0\0\0\0\0\0\0\0\0\0\0\0\x0d\x14";
-
+// How many columns a UPS band has.
 fn ups_count(band: u8) -> u8
     ensures { λ r. ⌜ r ≡ runOf (upsColumns band) .count ⌝ }
 {
-    if band < b'A' {
+    let Place::At(_) = ups_band(band) else {
         return 0;
+    };
+    if is_north(band) {
+        return 7;
     }
-    if b'Z' < band {
-        return 0;
-    }
-    UPS_COUNTS[(band - b'A') as usize]
+    12
 }
 
 // The place of a column's letter.
@@ -246,16 +301,18 @@ pub fn row_letter(zone: i64, north: bool, place: usize) -> u8
     }
 }
 
+// The tile of a UPS band's first column.
 fn ups_first_tile(band: u8) -> u8
     ensures { λ r. ⌜ r ≡ firstTile (upsColumns band) ⌝ }
 {
-    if band < b'A' {
+    let Place::At(_) = ups_band(band) else {
         return 0;
+    };
+    match band {
+        b'A' => 8,
+        b'Y' => 13,
+        _ => 20,
     }
-    if b'Z' < band {
-        return 0;
-    }
-    UPS_TILES[(band - b'A') as usize]
 }
 
 // The tile of the first column.

@@ -9,7 +9,7 @@ use runs::DigitsAnswer;
 use runs::Lead;
 ghost use mathlib.Core.Path.{_≡_};
 ghost use mathlib.Core.Bool.{true};
-ghost use Prim.Native.Nat.{_+_, _≤_, _<_};
+ghost use Prim.Native.Nat.{_+_, _*_, _^_, _≤_, _<_};
 ghost use lib.IntN.{pos, negsuc};
 ghost use lib.ListN.{length};
 ghost use lib.Signed.{_≤ℤ_};
@@ -17,6 +17,7 @@ ghost use Rattle.reader.specs.Head.{isInv, zoneWrong, headOf};
 ghost use Rattle.reader.specs.Bare.{bareTile, bareEasting, bareNorthing, bareOf};
 ghost use Rattle.reader.specs.Block.{tileOf, utmBlock, blockOf};
 ghost use Rattle.reader.specs.Read.{squareOf, fullOf, tailOf, readOf};
+ghost use Rattle.position.specs.Squares.{countOf, halfOf};
 ghost use Rattle.position.specs.Metres.{exact};
 ghost use Rattle.reader.specs.Metres.{metresAt, metresRead};
 
@@ -51,17 +52,18 @@ fn is_inv(s: &[u8]) -> bool
     letters::capital(s[2]) == b'V'
 }
 
-// No digits are no wrong zone: they are UPS.
+// No digits are no wrong zone: they are UPS. Their value is 0, so the value alone tells nearly every text apart.
 fn is_zone_wrong(lead: Lead) -> bool
+    requires { ⌜ (lead .count ≡ 0 → lead .value ≡ 0) ⌝ }
     ensures { λ r. ⌜ r ≡ zoneWrong lead ⌝ }
 {
-    if lead.count == 0 {
-        return false;
-    }
-    if lead.value == 0 {
+    if 60 < lead.value {
         return true;
     }
-    60 < lead.value
+    if lead.value == 0 {
+        return lead.count != 0;
+    }
+    false
 }
 
 fn head_of(s: &[u8]) -> HeadAnswer
@@ -103,6 +105,8 @@ fn head_of(s: &[u8]) -> HeadAnswer
 const METRE: i64 = 2_000_000;
 
 const TILE: i64 = 200_000_000_000;
+
+const TILE_UNITS: u64 = 200_000_000_000;
 
 // The tile of the k-th band's middle row.
 fn bare_tile(k: usize) -> i64
@@ -228,13 +232,23 @@ fn block_of(zone: i64, band: u8, k: usize, column: u8, row: u8) -> BlockAnswer
 
 // ---- parts to position
 
-// The centre of the square that the parts name in their tiles.
-fn square_of(parts: Parts, tiles: Tiles) -> Position
+// The centre on one axis, of a square with half a side of so many units.
+fn centre_at(half: u64, tile: u8, digits: u64) -> i64
+    requires { ⌜ (digits < 100000000000) × ((2 * digits + 1) * half < 200000000000) ⌝ }
+    ensures { λ r. ⌜ r ≡ pos (tile * 200000000000 + (2 * digits + 1) * half) ⌝ }
+{
+    (tile as u64 * TILE_UNITS + (2 * digits + 1) * half) as i64
+}
+
+// The centre of the square that the parts name in their tiles. Half its side is handed over, for both axes, and the digits are p:
+// neither is looked at again.
+fn square_of(half: u64, parts: Parts, tiles: Tiles) -> Position
+    requires { ⌜ (half ≡ halfOf (parts .p)) × (countOf (parts .p) ≤ 11) × (parts .easting < 10 ^ countOf (parts .p)) × (parts .northing < 10 ^ countOf (parts .p)) ⌝ }
     ensures { λ r. ⌜ r ≡ squareOf parts tiles ⌝ }
 {
     let north = letters::is_north(parts.band);
-    let easting = position::centre_of(parts.p, tiles.easting, parts.easting);
-    let northing = position::centre_of(parts.p, tiles.northing, parts.northing);
+    let easting = centre_at(half, tiles.easting, parts.easting);
+    let northing = centre_at(half, tiles.northing, parts.northing);
     Position {
         zone: parts.zone,
         north,
@@ -252,13 +266,14 @@ pub enum Answer {
     Refused(u64),
 }
 
-// From the column letter on.
+// From the column letter on. Half a side is looked up by the length, before the digits are: behind their loop it would be a jump.
 fn full_of(zone: i64, band: u8, k: usize, rest: &[u8]) -> Answer
     requires { ⌜ (k < 24) × (2 ≤ length (now rest)) ⌝ }
     ensures { λ r. ⌜ r ≡ fullOf zone band k (now (rest .entry)) ⌝ }
 {
     let column = letters::capital(rest[0]);
     let row = letters::capital(rest[1]);
+    let half = position::half_of(((rest.len() - 2) / 2) as i64);
     match block_of(zone, band, k, column, row) {
         BlockAnswer::NoBlock(n) => Answer::Refused(n),
         BlockAnswer::Block(tiles) => match runs::digits_of(&rest[2..]) {
@@ -273,7 +288,7 @@ fn full_of(zone: i64, band: u8, k: usize, rest: &[u8]) -> Answer
                     easting: d.easting,
                     northing: d.northing,
                 };
-                Answer::Square(square_of(parts, tiles))
+                Answer::Square(square_of(half, parts, tiles))
             }
         },
     }

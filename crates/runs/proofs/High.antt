@@ -1,15 +1,15 @@
--- High bytes: of bytes put together, and of the parts of a text. Assumes nothing.
-use mathlib.Core.Path.{_≡_, refl, ap, _∙_}
-use mathlib.Core.Bool.{Bool, true, false, _||_}
+-- High bytes and others: of bytes put together, and of the parts of a text. Assumes nothing.
+use mathlib.Core.Path.{_≡_, refl, sym, ap, _∙_}
+use mathlib.Core.Bool.{Bool, true, false, not, _&&_, _||_}
 use mathlib.Core.List.{List, [], _∷_}
-use Prim.Native.Nat.{ℕ, zero, suc, _+_, _≤_, _<_}
-use native.Mathlib.Numerals.{add-one}
+use Prim.Native.Nat.{ℕ, zero, suc, _-_, _≤_}
 use native.Mathlib.Omega.{arith}
 use borrow.Author.Tests.{le-leb, lt-leb, leb-true, leb-false}
 use lib.Bits.{bitOr, or-lt, or-add-and, and-le-l, and-le-r}
-use lib.ListN.{length, getD, take, drop}
-use lib.Seq.{drop-cons, take-take}
-use Rattle.runs.specs.Runs.{high, hasHigh}
+use lib.ListN.{length, take, drop}
+use lib.Seq.{take-take}
+use Rattle.runs.specs.Runs.{high, hasHigh, allDigits}
+use Rattle.runs.proofs.Laws.{all-split}
 
 pub or-assoc : (a b c : Bool) → (a || (b || c)) ≡ ((a || b) || c)
 or-assoc true b c = refl
@@ -32,11 +32,6 @@ together-by a b false false e f = lt-leb 128 (bitOr a b) (or-lt 7 a b (leb-false
 pub together : (a b : ℕ) → high (bitOr a b) ≡ (high a || high b)
 together a b = together-by a b (high a) (high b) refl refl
 
--- one more byte of a part
-pub one-more : (s : List ℕ) (i j x n : ℕ) → j ≡ i + 1 → i < length s → (high x || hasHigh (take (suc n) (drop i s))) ≡ (high (bitOr x (getD s i 0)) || hasHigh (take n (drop j s)))
-unfolding hasHigh
-one-more s i j x n e h = rw (e, add-one, drop-cons s i 0, together x (getD s i 0)) (or-assoc (high x) _ _)
-
 pub high-split : (n : ℕ) (s : List ℕ) → hasHigh s ≡ (hasHigh (take n s) || hasHigh (drop n s))
 unfolding hasHigh
 high-split zero s = refl
@@ -54,7 +49,29 @@ both-by false false true over after all p q r = cc
 both-by true false false over after all p q r = cc
 both-by false false false over after all p q r = cc
 
-pub both-ends : (s : List ℕ) (n m : ℕ) → m ≤ n → (hasHigh (take n s) || hasHigh (drop m s)) ≡ hasHigh s
-both-ends s n m h =
-    both-by (hasHigh (take n s)) (hasHigh (drop m s)) (hasHigh (take m s)) (hasHigh (drop m (take n s))) (hasHigh (drop n s)) (hasHigh s)
-    (high-split m s) (high-split m (take n s) ∙ ap (λ (l : List ℕ). hasHigh l || hasHigh (drop m (take n s))) (take-take m n s h)) (high-split n s)
+-- of anything that a text has exactly if one of its two parts has it
+pub both-ends : (f : List ℕ → Bool) → ((n : ℕ) (s : List ℕ) → f s ≡ (f (take n s) || f (drop n s))) → (s : List ℕ) (n m : ℕ) → m ≤ n → (f (take n s) || f (drop m s)) ≡ f s
+both-ends f split s n m h =
+    both-by (f (take n s)) (f (drop m s)) (f (take m s)) (f (drop m (take n s))) (f (drop n s)) (f s)
+    (split m s) (split m (take n s) ∙ ap (λ (l : List ℕ). f l || f (drop m (take n s))) (take-take m n s h)) (split n s)
+
+-- so of a text of 8 to 16 bytes the first eight and the last eight tell it
+pub eights : (f : List ℕ → Bool) → ((n : ℕ) (s : List ℕ) → f s ≡ (f (take n s) || f (drop n s))) → (s : List ℕ) → 8 ≤ length s → length s ≤ 16
+    → (f (take 8 s) || f (drop (length s - 8) s)) ≡ f s
+eights f split s h k = both-ends f split s 8 (length s - 8) (omega arith)
+
+-- that all bytes are digits is told by the same parts: not all are exactly if not all of one part are
+not-and : (a b : Bool) → not (a && b) ≡ (not a || not b)
+not-and true b = refl
+not-and false b = refl
+
+not-not : (a : Bool) → not (not a) ≡ a
+not-not true = refl
+not-not false = refl
+
+others-split : (n : ℕ) (s : List ℕ) → not (allDigits s) ≡ (not (allDigits (take n s)) || not (allDigits (drop n s)))
+others-split n s = ap not (all-split n s) ∙ not-and (allDigits (take n s)) (allDigits (drop n s))
+
+pub all-eights : (s : List ℕ) → 8 ≤ length s → length s ≤ 16 → (allDigits (take 8 s) && allDigits (drop (length s - 8) s)) ≡ allDigits s
+all-eights s h k =
+    sym (not-not _) ∙ ap not (not-and (allDigits (take 8 s)) _ ∙ eights (λ t. not (allDigits t)) others-split s h k) ∙ not-not (allDigits s)

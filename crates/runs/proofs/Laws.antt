@@ -64,6 +64,11 @@ pub all-tail : (x : ℕ) (ds : List ℕ) → allDigits (x ∷ ds) ≡ true → a
 unfolding allDigits
 all-tail x ds t = and-right (isDigit x) _ t
 
+pub digit-at : (ds : List ℕ) (i : ℕ) → allDigits ds ≡ true → i < length ds → isDigit (getD ds i 0) ≡ true
+digit-at [] i t h = absurd (omega arith)
+digit-at (d ∷ ds) zero t h = all-head d ds t
+digit-at (d ∷ ds) (suc i) t h = digit-at ds i (all-tail d ds t) (omega arith)
+
 -- n digits after a are below (a + 1) times 10 to the n, so n digits alone are below 10 to the n
 pub below : (ds : List ℕ) (a : ℕ) → allDigits ds ≡ true → valueFrom a ds < (a + 1) * 10 ^ length ds
 unfolding valueFrom

@@ -1,15 +1,19 @@
 -- What follows the row letter, refusals 11, 12 and 13 in their order: document 01, "Reading bytes". Assumes nothing.
-use mathlib.Core.Bool.{cond, not, _&&_}
+use mathlib.Core.Bool.{cond, not}
 use mathlib.Core.List.{List}
 use Prim.Native.Nat.{ℕ, _/_, _%_}
 use lib.Dec.{eqb, ltb}
 use lib.IntN.{pos}
 use lib.ListN.{length, take, drop}
+use Rattle.runs.specs.declared.Digits.{Digits}
 use Rattle.runs.specs.declared.DigitsAnswer.{DigitsAnswer}
 use Rattle.runs.specs.declared.DigitsAnswer.the-variants.{Halves, NoHalves}
 use Rattle.runs.specs.Runs.{allDigits, valueOf}
 
--- "Otherwise the digits halve into easting and northing"
+-- "Otherwise the digits halve into easting and northing": two halves of one length.
+abbrev pub halvesOf : List ℕ → List ℕ → Digits
+halvesOf a b = record { p = pos (length a); easting = valueOf a; northing = valueOf b }
+
 unfoldable pub digitsOf : List ℕ → DigitsAnswer
 digitsOf ds =
     let half = length ds / 2 in
@@ -17,11 +21,3 @@ digitsOf ds =
     (cond (eqb (length ds % 2) 1) (NoHalves 12)  -- "the number of digits is odd"
     (cond (ltb 22 (length ds)) (NoHalves 13)  -- "there are more than 22 digits"
     (Halves (record { p = pos half; easting = valueOf (take half ds); northing = valueOf (drop half ds) }))))
-
--- How the program gets there, which no public answer speaks of: the refusal k of bytes that do not halve, after 11 ..
-unfoldable pub noHalves : List ℕ → ℕ → DigitsAnswer
-noHalves ds k = cond (allDigits ds) (NoHalves k) (NoHalves 11)
-
--- .. and two halves of one length.
-unfoldable pub pairOf : List ℕ → List ℕ → DigitsAnswer
-pairOf a b = cond (allDigits a && allDigits b) (Halves (record { p = pos (length a); easting = valueOf a; northing = valueOf b })) (NoHalves 11)

@@ -1,11 +1,12 @@
 // What stands in a text, byte by byte: high bytes, digits, the digits that lead, the two numbers that digits halve into.
-// Every call takes any slice and looks at each of its bytes once; has_high looks at some bytes of a short text twice.
+// Every call takes any slice and looks at each of its bytes once; some bytes of 8 to 16 stand in two steps of eight, and digits are
+// looked at again for their numbers.
 ghost use mathlib.Core.Path.{_≡_};
 ghost use mathlib.Core.Bool.{true};
 ghost use Prim.Native.Nat.{_+_, _-_, _*_, _≤_, _<_, min};
-ghost use lib.ListN.{length, take, drop};
-ghost use Rattle.runs.specs.Runs.{isDigit, allDigits, high, hasHigh, valueOf, leadOf};
-ghost use Rattle.runs.specs.Digits.{noHalves, pairOf, digitsOf};
+ghost use lib.ListN.{length};
+ghost use Rattle.runs.specs.Runs.{isDigit, allDigits, hasHigh, leadOf};
+ghost use Rattle.runs.specs.Digits.{halvesOf, digitsOf};
 
 // 0 to 9.
 pub fn is_digit(b: u8) -> bool
@@ -31,15 +32,10 @@ fn has_high_in(s: &[u8]) -> bool
     128 <= all
 }
 
-// Eight bytes together.
-fn eight(s: &[u8], i: usize) -> u8
-    requires { ⌜ i + 8 ≤ length (now s) ⌝ }
-    ensures { λ r. ⌜ high r ≡ hasHigh (take 8 (drop i (now (s .entry)))) ⌝ }
-{
-    s[i] | s[i + 1] | s[i + 2] | s[i + 3] | s[i + 4] | s[i + 5] | s[i + 6] | s[i + 7]
-}
+// Of at most so many bytes, and at least eight, the first eight and the last eight are all; eight are looked at in one step.
+const TWO_EIGHTS: usize = 16;
 
-// Whether a byte of 128 or more stands anywhere. Most references have 8 to 16 bytes: their first eight and their last eight are all.
+// Whether a byte of 128 or more stands anywhere. Most references have 8 to 16 bytes.
 pub fn has_high(s: &[u8]) -> bool
     ensures { λ r. ⌜ r ≡ hasHigh (now (s .entry)) ⌝ }
 {
@@ -47,11 +43,10 @@ pub fn has_high(s: &[u8]) -> bool
     if n < 8 {
         return has_high_in(s);
     }
-    if 16 < n {
+    if TWO_EIGHTS < n {
         return has_high_in(s);
     }
-    let both = eight(s, 0) | eight(s, n - 8);
-    128 <= both
+    has_high_in(&s[..8]) | has_high_in(&s[n - 8..])
 }
 
 // The number v followed by a digit. Eleven digits never wrap.
@@ -59,7 +54,7 @@ fn then_digit(v: u64, digit: u8) -> u64
     requires { ⌜ (v < 100000000000) × (isDigit digit ≡ true) ⌝ }
     ensures { λ r. ⌜ r ≡ v * 10 + (digit - 48) ⌝ }
 {
-    v * 10 + (digit - b'0') as u64
+    v * 10 + digit as u64 - 48
 }
 
 // The same, or the limit where that is more: a number of any length never wraps.
@@ -98,8 +93,8 @@ pub fn lead_of(s: &[u8]) -> Lead
 
 // ---- 11, 12, 13: the digits of both axes
 
-// Whether every byte is a digit. It goes to the end in any case, like has_high.
-pub fn all_digits(s: &[u8]) -> bool
+// Whether every byte is a digit. The pass goes to the end in any case, like has_high_in's.
+fn all_digits_in(s: &[u8]) -> bool
     ensures { λ r. ⌜ r ≡ allDigits (now (s .entry)) ⌝ }
 {
     let mut all = true;
@@ -109,6 +104,20 @@ pub fn all_digits(s: &[u8]) -> bool
         i += 1;
     }
     all
+}
+
+// Whether every byte is a digit.
+pub fn all_digits(s: &[u8]) -> bool
+    ensures { λ r. ⌜ r ≡ allDigits (now (s .entry)) ⌝ }
+{
+    let n = s.len();
+    if n < 8 {
+        return all_digits_in(s);
+    }
+    if TWO_EIGHTS < n {
+        return all_digits_in(s);
+    }
+    all_digits_in(&s[..8]) & all_digits_in(&s[n - 8..])
 }
 
 // Digits of each axis, and the two numbers that they spell.
@@ -123,56 +132,42 @@ pub enum DigitsAnswer {
     NoHalves(u64),
 }
 
-// The refusal of bytes that do not halve: 11 comes before it. No number is worked out.
-fn no_halves(s: &[u8], k: u64) -> DigitsAnswer
-    ensures { λ r. ⌜ r ≡ noHalves (now (s .entry)) k ⌝ }
-{
-    if all_digits(s) {
-        return DigitsAnswer::NoHalves(k);
-    }
-    DigitsAnswer::NoHalves(11)
-}
-
-// The two halves, in step: each digit is read once, and neither number waits for the other.
-fn pair_of(a: &[u8], b: &[u8]) -> DigitsAnswer
-    requires { ⌜ (length (now a) ≡ length (now b)) × (length (now a) ≤ 11) ⌝ }
-    ensures { λ r. ⌜ r ≡ pairOf (now (a .entry)) (now (b .entry)) ⌝ }
+// The two halves, in step: neither number waits for the other.
+fn halves_of(a: &[u8], b: &[u8]) -> Digits
+    requires { ⌜ (length (now a) ≡ length (now b)) × (length (now a) ≤ 11) × (allDigits (now a) ≡ true) × (allDigits (now b) ≡ true) ⌝ }
+    ensures { λ r. ⌜ r ≡ halvesOf (now (a .entry)) (now (b .entry)) ⌝ }
 {
     let mut easting: u64 = 0;
     let mut northing: u64 = 0;
     let mut i = 0;
     while i < a.len() {
-        let x = a[i];
-        if !is_digit(x) {
-            return DigitsAnswer::NoHalves(11);
-        }
-        let y = b[i];
-        if !is_digit(y) {
-            return DigitsAnswer::NoHalves(11);
-        }
-        easting = then_digit(easting, x);
-        northing = then_digit(northing, y);
+        easting = then_digit(easting, a[i]);
+        northing = then_digit(northing, b[i]);
         i += 1;
     }
     let p = a.len() as i64;
-    DigitsAnswer::Halves(Digits {
+    Digits {
         p,
         easting,
         northing,
-    })
+    }
 }
 
-// What follows the row letter: digits that halve, or the rule by which they do not.
+// What follows the row letter: digits that halve, or the rule by which they do not. That all are digits is seen first, many at
+// a time, so that no number is worked out of a text that is refused.
 pub fn digits_of(s: &[u8]) -> DigitsAnswer
     ensures { λ r. ⌜ r ≡ digitsOf (now (s .entry)) ⌝ }
 {
+    if !all_digits(s) {
+        return DigitsAnswer::NoHalves(11);
+    }
     let n = s.len();
     if n % 2 == 1 {
-        return no_halves(s, 12);
+        return DigitsAnswer::NoHalves(12);
     }
     if 22 < n {
-        return no_halves(s, 13);
+        return DigitsAnswer::NoHalves(13);
     }
     let half = n / 2;
-    pair_of(&s[..half], &s[half..])
+    DigitsAnswer::Halves(halves_of(&s[..half], &s[half..]))
 }

@@ -4,7 +4,7 @@ use mathlib.Core.Path.{_≡_, sym, _∙_}
 use lib.Dec.{lit≤}
 use mir.Facts.{toZ-ofZ}
 use borrow.Author.Needs.{needs}
-use Rattle.letters.specs.Letters.{UtmBands, UpsBands, placeFrom, placeOf}
+use Rattle.letters.specs.Letters.{UtmBands, placeFrom, placeOf}
 use Rattle.letters.specs.Sets.{gridOf, bandsOf}
 use Rattle.letters.specs.Tables.{runOf}
 use Rattle.letters.proofs.Runs.{run-place}
@@ -29,8 +29,8 @@ enum-told-3 c = search needs
 place-in-requires : tie.Need-place-in-requires
 place-in-requires c κs = (lit≤ tt, lit≤ tt)
 
-place-in-requires-2 : tie.Need-place-in-requires-2
-place-in-requires-2 c κs = (lit≤ tt, lit≤ tt)
+ups-band-requires : tie.Need-ups-band-requires
+ups-band-requires c κs = search needs
 
 returns : tie.Need-returns
 unfolding bandsOf runOf
@@ -40,15 +40,15 @@ returns c =
     rw k (c .place-in .ensures ∙ run-place UtmBands (t .before .before .before .args .letter))
 
 returns-2 : tie.Need-returns-2
-unfolding bandsOf runOf
+unfolding bandsOf
 returns-2 c =
     let t = c .before in
     let k = sym (grid (t .before .before)) ∙ t .enum-told2 .given .1 in
-    rw k (c .place-in2 .ensures ∙ run-place UpsBands (t .before .before .before .args .letter))
+    rw k (c .ups-band .ensures)
 
 returns-3 : tie.Need-returns-3
 unfolding bandsOf placeOf placeFrom
 returns-3 c = let k = sym (grid (c .before .before)) ∙ c .enum-told3 .given .1 in rw k
 
 pub band-place-spec : {M : Type 1} → statement M
-band-place-spec = tie.close (tie.spec grid-of-requires enum-told place-in-requires enum-told-2 place-in-requires-2 enum-told-3 returns returns-2 returns-3)
+band-place-spec = tie.close (tie.spec grid-of-requires enum-told place-in-requires enum-told-2 ups-band-requires enum-told-3 returns returns-2 returns-3)

@@ -1,43 +1,38 @@
--- `letters::code_in` meets its contract: each alphabet's table is the list of its places, by computation.
+-- `letters::code_in` meets its contract: each alphabet has its own call.
 -- Assumes nothing.
-use mathlib.Core.Path.{_≡_, refl, sym, ap, _∙_}
+use mathlib.Core.Path.{_≡_, sym, ap, _∙_}
 use Prim.Native.Nat.{ℕ}
-use borrow.Author.Tests.{ne-eqb}
 use borrow.Author.Needs.{needs}
-use Rattle.letters.specs.Letters.{placeFrom}
-use Rattle.letters.specs.Tables.{codeIn}
-use Rattle.whole.proofs.Table.{row}
+use borrow.Author.Tests.{ne-eqb}
+use Rattle.letters.specs.Tables.{inAlphabet}
 use Rattle.letters.proofs.code_in.Statement.{statement}
 use Rattle.letters.proofs.code_in.Tie as tie
 
-array-read-result : tie.Need-array-read-result
-array-read-result c = search needs
+all-code-requires : tie.Need-all-code-requires
+all-code-requires c κs = search needs
 
-array-read-result-2 : tie.Need-array-read-result-2
-array-read-result-2 c = search needs
+column-code-requires : tie.Need-column-code-requires
+column-code-requires c κs = search needs
 
-array-read-result-3 : tie.Need-array-read-result-3
-array-read-result-3 c = search needs
+band-code-requires : tie.Need-band-code-requires
+band-code-requires c κs = search needs
 
 returns : tie.Need-returns
-unfolding codeIn placeFrom
-returns c = let s = c .before in row (codeIn 0) _ 26 refl 0 (s .args .index) (s .pre) ∙ ap (λ (n : ℕ). codeIn n (s .args .index)) (sym (c .match .keys1))
+returns c = c .all-code .ensures ∙ ap (λ (n : ℕ). inAlphabet n (c .before .before .args .letter)) (sym (c .before .match .keys1))
 
 returns-2 : tie.Need-returns-2
-unfolding codeIn placeFrom
-returns-2 c = let s = c .before in row (codeIn 1) _ 26 refl 0 (s .args .index) (s .pre) ∙ ap (λ (n : ℕ). codeIn n (s .args .index)) (sym (c .match .keys2))
+returns-2 c = c .column-code .ensures ∙ ap (λ (n : ℕ). inAlphabet n (c .before .before .args .letter)) (sym (c .before .match .keys2))
 
 -- any other number is the third alphabet's
-other : (n i : ℕ) → (n ≡ 0 → ⊥) → (n ≡ 1 → ⊥) → codeIn 2 i ≡ codeIn n i
-unfolding codeIn
-other n i a b = rw (ne-eqb n 0 a, ne-eqb n 1 b)
+other : (n b : ℕ) → (n ≡ 0 → ⊥) → (n ≡ 1 → ⊥) → inAlphabet 2 b ≡ inAlphabet n b
+unfolding inAlphabet
+other n b x y = rw (ne-eqb n 0 x, ne-eqb n 1 y)
 
 returns-3 : tie.Need-returns-3
-unfolding codeIn placeFrom
 returns-3 c =
-    let s = c .before in
-    let k = c .match .rest in
-    row (codeIn 2) _ 26 refl 0 (s .args .index) (s .pre) ∙ other (s .args .alphabet) (s .args .index) (k .0 .1) (k .1)
+    let s = c .before .before in
+    let k = c .before .match .rest in
+    c .band-code .ensures ∙ other (s .args .alphabet) (s .args .letter) (k .0 .1) (k .1)
 
 pub code-in-spec : {M : Type 1} → statement M
-code-in-spec = tie.close (tie.spec array-read-result array-read-result-2 array-read-result-3 returns returns-2 returns-3)
+code-in-spec = tie.close (tie.spec all-code-requires column-code-requires band-code-requires returns returns-2 returns-3)

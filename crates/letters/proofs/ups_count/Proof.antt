@@ -1,40 +1,44 @@
--- `letters::ups_count` meets its contract: the table is the list of the bands' values, by computation.
+-- `letters::ups_count` meets its contract: every byte's count, by computation, is the one of its side or none.
 -- Assumes nothing.
-use mathlib.Core.Path.{_≡_, refl, ap, _∙_}
-use Prim.Native.Nat.{ℕ, _+_, _-_}
-use native.Mathlib.Omega.{arith}
+use mathlib.Core.Path.{_≡_, sym, _∙_}
 use borrow.Author.Needs.{needs}
-use Rattle.letters.specs.Tables.{runOf}
-use Rattle.letters.specs.Sets.{upsColumns}
-use Rattle.whole.proofs.Table.{row}
-use Rattle.letters.proofs.Runs.{no-columns}
+use Rattle.letters.proofs.Runs.{count-of}
 use Rattle.letters.proofs.ups_count.Statement.{statement}
 use Rattle.letters.proofs.ups_count.Tie as tie
 
--- what the table holds of a band
-abbrev held : ℕ → ℕ
-held b = runOf (upsColumns b) .count
+ups-band-requires : tie.Need-ups-band-requires
+ups-band-requires c κs = search needs
+
+enum-told : tie.Need-enum-told
+enum-told c = search needs
+
+enum-told-2 : tie.Need-enum-told-2
+enum-told-2 c = search needs
 
 returns : tie.Need-returns
-unfolding runOf
-returns c = let b = c .before .args .band in rw (no-columns b (λ h k. omega (arith, c .if1 .taken)))
+returns c =
+    let u = c .before .before in
+    let s = u .before in
+    sym (rw (sym (u .ups-band .ensures) ∙ c .enum-told2 .given .1) at (count-of (s .args .band) (s .fits .band .fits)))
+
+is-north-requires : tie.Need-is-north-requires
+is-north-requires c κs = search needs
 
 returns-2 : tie.Need-returns-2
-unfolding runOf
-returns-2 c = let b = c .before .before .args .band in rw (no-columns b (λ h k. omega (arith, c .if2 .taken)))
-
-cast-result : tie.Need-cast-result
-cast-result c = search needs
-
-array-read-result : tie.Need-array-read-result
-array-read-result c = search needs
+returns-2 c =
+    let n = c .before in
+    let t = n .before in
+    let u = t .before .before in
+    let s = u .before in
+    sym (rw (sym (u .ups-band .ensures) ∙ t .enum-told .given .1, sym (n .is-north .ensures) ∙ c .if1 .taken) at (count-of (s .args .band) (s .fits .band .fits)))
 
 returns-3 : tie.Need-returns-3
-unfolding runOf upsColumns
 returns-3 c =
-    let b = c .before .before .args .band in
-    let e : 65 + (b - 65) ≡ b = omega (arith, c .before .if1 .left) in
-    row (λ i. held (65 + i)) _ 26 refl 0 (b - 65) (omega (arith, c .before .if1 .left, c .if2 .left)) ∙ ap held e
+    let n = c .before in
+    let t = n .before in
+    let u = t .before .before in
+    let s = u .before in
+    sym (rw (sym (u .ups-band .ensures) ∙ t .enum-told .given .1, sym (n .is-north .ensures) ∙ c .if1 .left) at (count-of (s .args .band) (s .fits .band .fits)))
 
 pub ups-count-spec : {M : Type 1} → statement M
-ups-count-spec = tie.close (tie.spec returns returns-2 cast-result array-read-result returns-3)
+ups-count-spec = tie.close (tie.spec ups-band-requires enum-told enum-told-2 returns is-north-requires returns-2 returns-3)

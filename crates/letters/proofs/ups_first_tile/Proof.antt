@@ -1,40 +1,49 @@
--- `letters::ups_first_tile` meets its contract: the table is the list of the bands' values, by computation.
+-- `letters::ups_first_tile` meets its contract: every byte's tile, by computation, is the one of its case or none.
 -- Assumes nothing.
-use mathlib.Core.Path.{_≡_, refl, ap, _∙_}
-use Prim.Native.Nat.{ℕ, _+_, _-_}
-use native.Mathlib.Omega.{arith}
+use mathlib.Core.Path.{_≡_, sym, _∙_}
 use borrow.Author.Needs.{needs}
-use Rattle.letters.specs.Letters.{firstTile}
-use Rattle.letters.specs.Sets.{upsColumns}
-use Rattle.whole.proofs.Table.{row}
-use Rattle.letters.proofs.Runs.{no-columns}
+use borrow.Author.Tests.{eq-eqb, ne-eqb}
+use Rattle.letters.proofs.Runs.{tile-of}
 use Rattle.letters.proofs.ups_first_tile.Statement.{statement}
 use Rattle.letters.proofs.ups_first_tile.Tie as tie
 
--- what the table holds of a band
-abbrev held : ℕ → ℕ
-held b = firstTile (upsColumns b)
+ups-band-requires : tie.Need-ups-band-requires
+ups-band-requires c κs = search needs
+
+enum-told : tie.Need-enum-told
+enum-told c = search needs
+
+enum-told-2 : tie.Need-enum-told-2
+enum-told-2 c = search needs
 
 returns : tie.Need-returns
-unfolding firstTile
-returns c = let b = c .before .args .band in rw (no-columns b (λ h k. omega (arith, c .if1 .taken)))
+returns c =
+    let u = c .before .before in
+    let s = u .before in
+    sym (rw (sym (u .ups-band .ensures) ∙ c .enum-told2 .given .1) at (tile-of (s .args .band) (s .fits .band .fits)))
 
 returns-2 : tie.Need-returns-2
-unfolding firstTile
-returns-2 c = let b = c .before .before .args .band in rw (no-columns b (λ h k. omega (arith, c .if2 .taken)))
-
-cast-result : tie.Need-cast-result
-cast-result c = search needs
-
-array-read-result : tie.Need-array-read-result
-array-read-result c = search needs
+returns-2 c =
+    let t = c .before in
+    let u = t .before .before in
+    let s = u .before in
+    sym (rw (sym (u .ups-band .ensures) ∙ t .enum-told .given .1, eq-eqb _ _ (c .match2 .keys1)) at (tile-of (s .args .band) (s .fits .band .fits)))
 
 returns-3 : tie.Need-returns-3
-unfolding firstTile upsColumns
 returns-3 c =
-    let b = c .before .before .args .band in
-    let e : 65 + (b - 65) ≡ b = omega (arith, c .before .if1 .left) in
-    row (λ i. held (65 + i)) _ 26 refl 0 (b - 65) (omega (arith, c .before .if1 .left, c .if2 .left)) ∙ ap held e
+    let t = c .before in
+    let u = t .before .before in
+    let s = u .before in
+    rw (c .match2 .keys2)
+    (sym (rw (sym (u .ups-band .ensures) ∙ t .enum-told .given .1, c .match2 .keys2) at (tile-of (s .args .band) (s .fits .band .fits))))
+
+returns-4 : tie.Need-returns-4
+returns-4 c =
+    let t = c .before in
+    let u = t .before .before in
+    let s = u .before in
+    let k = c .match2 .rest in
+    sym (rw (sym (u .ups-band .ensures) ∙ t .enum-told .given .1, ne-eqb _ _ (k .0 .1), ne-eqb _ _ (k .1)) at (tile-of (s .args .band) (s .fits .band .fits)))
 
 pub ups-first-tile-spec : {M : Type 1} → statement M
-ups-first-tile-spec = tie.close (tie.spec returns returns-2 cast-result array-read-result returns-3)
+ups-first-tile-spec = tie.close (tie.spec ups-band-requires enum-told enum-told-2 returns returns-2 returns-3 returns-4)

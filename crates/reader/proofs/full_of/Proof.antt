@@ -1,16 +1,26 @@
 -- `reader::full_of` meets its contract, by what the block, the digits and the square ensure.
 -- Assumes nothing.
 use mathlib.Core.Path.{_≡_, sym, _∙_}
+use mathlib.Core.List.{List}
+use Prim.Native.Nat.{ℕ, _-_, _/_, _^_, _≤_, _<_}
+use native.Mathlib.Omega.{arith}
 use borrow.Author.Needs.{needs}
-use lib.ListN.{drop}
+use borrow.Author.Tests.{le-ltb}
+use lib.IntN.{pos}
+use lib.ListN.{length, drop, length-drop}
 use mir.Syntax.{w64}
-use mir.Facts.{toZ-ofZ}
+use mir.Val.{toZ, ofZ}
+use mir.Facts.{toZ-ofZ, toZ-pos}
 use Rattle.reader.specs.declared.BlockAnswer.the-variants.{Block}
 use Rattle.reader.specs.Head.{letterIn}
 use Rattle.reader.specs.Block.{blockOf}
+use Rattle.position.specs.Squares.{countOf, halfOf}
+use Rattle.runs.specs.declared.Digits.{Digits}
+use Rattle.runs.specs.declared.DigitsAnswer.the-variants.{Halves}
 use Rattle.runs.specs.Digits.{digitsOf}
 use Rattle.reader.specs.Read.{fullOf}
 use Rattle.runs.proofs.Laws.{rest}
+use Rattle.reader.proofs.Sizes.{halved-by}
 use Rattle.reader.proofs.full_of.Statement.{statement}
 use Rattle.reader.proofs.full_of.Tie as tie
 
@@ -25,6 +35,15 @@ shared-slice-read-capital-2 c = search needs
 
 capital-requires-2 : tie.Need-capital-requires-2
 capital-requires-2 c κs = search needs
+
+sub-half-of : tie.Need-sub-half-of
+sub-half-of c = search needs
+
+cast-half-of : tie.Need-cast-half-of
+cast-half-of c = search needs
+
+half-of-requires : tie.Need-half-of-requires
+half-of-requires c κs = search needs
 
 block-of-requires : tie.Need-block-of-requires
 block-of-requires c κs = search needs
@@ -53,15 +72,12 @@ enum-known-n-2 c = search needs
 enum-known-d : tie.Need-enum-known-d
 enum-known-d c = search needs
 
-square-of-requires : tie.Need-square-of-requires
-square-of-requires c κs = search needs
-
 -- the block, of the letters as the text has them
 block : (c : tie.After-block-of)
-    → let s = c .before .before .before .before .before .before in
+    → let s = c .before .before .before .before .before .before .before in
     c .block-of .result ≡ blockOf (s .args .zone) (s .args .band) (s .args .k) (letterIn (s .args .rest .now) 0) (letterIn (s .args .rest .now) 1)
 block c =
-    let r = c .before in
+    let r = c .before .before in
     let l = r .before .before in
     let s = l .before .before .before in
     rw (toZ-ofZ (s .fits .zone), l .capital .ensures, r .capital2 .ensures) at (c .block-of .ensures)
@@ -72,16 +88,47 @@ returns c = let n = c .before in let k = sym (block (n .before .before)) ∙ n .
 
 -- its tiles, and the digits after it
 tiled : (c : tie.After-known-told2)
-    → let s = c .before .before .before .before .before .before .before .before .before in
+    → let s = c .before .before .before .before .before .before .before .before .before .before in
     blockOf (s .args .zone) (s .args .band) (s .args .k) (letterIn (s .args .rest .now) 0) (letterIn (s .args .rest .now) 1) ≡ Block (c .before .tiles .given .0 .0)
 tiled c = let t = c .before in sym (block (t .before .before)) ∙ t .tiles .given .1
 
 digits : (c : tie.After-digits-of)
-    → let s = c .before .before .before .before .before .before .before .before .before .before .before in
+    → let s = c .before .before .before .before .before .before .before .before .before .before .before .before in
     c .digits-of .result ≡ digitsOf (drop 2 (s .args .rest .now))
 digits c =
-    let s = c .before .before .before .before .before .before .before .before .before .before .before in
+    let s = c .before .before .before .before .before .before .before .before .before .before .before .before in
     rw (rest (s .args .rest .now) 2) at (c .digits-of .ensures)
+
+-- half a side, by the length
+half : (c : tie.After-half-of) → let s = c .before .before .before .before .before .before in c .half-of .result ≡ halfOf (pos ((length (s .args .rest .now) - 2) / 2))
+half c =
+    let s = c .before .before .before .before .before .before in
+    let h : (length (s .args .rest .now) - 2) / 2 < 9223372036854775808 = search needs in
+    rw (toZ-pos w64 {n = (length (s .args .rest .now) - 2) / 2} h) at (c .half-of .ensures)
+
+count-is : (n : ℕ) → n ≤ 11 → countOf (pos n) ≡ n
+unfolding countOf
+count-is n h = rw (le-ltb 11 n h)
+
+halves : (s : List ℕ) (d : Digits) (half : ℕ) → digitsOf (drop 2 s) ≡ Halves d → half ≡ halfOf (pos ((length s - 2) / 2))
+    → (half ≡ halfOf (d .p)) × (countOf (d .p) ≤ 11) × (d .easting < 10 ^ countOf (d .p)) × (d .northing < 10 ^ countOf (d .p))
+halves s d half e f =
+    let h = halved-by (drop 2 s) d e in
+    let n : (length s - 2) / 2 ≡ h .n = omega (arith, h .all, length-drop 2 s) in
+    rw (h .p, count-is (h .n) (h .few)) (rw n at f, h .few, h .east-lt, h .north-lt)
+
+-- what is known where the digits halve
+halved : (c : tie.After-struct-told) → let s = c .before .before .before .before .before .before .before .before .before .before .before .before .before .before .before .before in digitsOf (drop 2 (s .args .rest .now)) ≡ Halves (c .before .before .d .given .0 .0)
+halved c = let n = c .before .before in sym (digits (n .before .before)) ∙ n .d .given .1
+
+p-back : (c : tie.After-struct-told) → toZ w64 (ofZ w64 (c .before .before .d .given .0 .0 .p)) ≡ c .before .before .d .given .0 .0 .p
+p-back c = toZ-ofZ {w = w64} {z = c .before .before .d .given .0 .0 .p} (record { sfits = c .struct-told .given .0 .1 })
+
+square-of-requires : tie.Need-square-of-requires
+square-of-requires c κs =
+    let h = c .before .before .before .before .before .before .before .before .before .before in
+    let s = h .before .before .before .before .before .before in
+    rw (p-back c) (halves (s .args .rest .now) _ _ (halved c) (half h))
 
 returns-2 : tie.Need-returns-2
 unfolding fullOf
@@ -95,16 +142,12 @@ returns-3 : tie.Need-returns-3
 unfolding fullOf
 returns-3 c =
     let t = c .before in
-    let n = t .before .before in
-    let d = n .before .before in
-    let b = d .before .before in
-    let r = b .before .before .before .before in
+    let b = t .before .before .before .before .before .before in
+    let r = b .before .before .before .before .before in
     let l = r .before .before in
     let s = l .before .before .before in
-    let k = sym (digits d) ∙ n .d .given .1 in
-    let p = toZ-ofZ {w = w64} {z = n .d .given .0 .0 .p} (record { sfits = t .struct-told .given .0 .1 }) in
-    let q = rw (toZ-ofZ (s .fits .zone), p, l .capital .ensures, r .capital2 .ensures) at (c .square-of .ensures) in
-    rw (tiled b, k, q)
+    let q = rw (toZ-ofZ (s .fits .zone), p-back t, l .capital .ensures, r .capital2 .ensures) at (c .square-of .ensures) in
+    rw (tiled b, halved t, q)
 
 pub full-of-spec : {M : Type 1} → statement M
 full-of-spec =
@@ -114,6 +157,9 @@ full-of-spec =
     capital-requires
     shared-slice-read-capital-2
     capital-requires-2
+    sub-half-of
+    cast-half-of
+    half-of-requires
     block-of-requires
     enum-known-n
     enum-known-tiles

@@ -1,12 +1,12 @@
 -- `reader::head_of` meets its contract: each test is the definition's, by what the scans and the sets ensure.
 -- Assumes nothing.
-use mathlib.Core.Path.{_≡_, sym, _∙_}
+use mathlib.Core.Path.{_≡_, refl, sym, _∙_}
 use borrow.Author.Needs.{needs}
 use borrow.Author.Tests.{lt-ltb, le-ltb, le-leb, lt-leb}
 use native.Mathlib.Omega.{arith}
 use mathlib.Core.Bool.{true, false}
-use mathlib.Core.List.{List}
-use Prim.Native.Nat.{ℕ, _+_, _≤_, _<_}
+use mathlib.Core.List.{List, [], _∷_}
+use Prim.Native.Nat.{ℕ, _+_, _≤_, _<_, min}
 use lib.IntN.{ℤ, pos}
 use lib.ListN.{length}
 use mir.Syntax.{w64}
@@ -17,7 +17,7 @@ use Rattle.letters.specs.declared.Place.the-variants.{At, NotInSet}
 use Rattle.letters.specs.Letters.{placeOf}
 use Rattle.reader.specs.declared.HeadAnswer.the-variants.{Start, NoStart}
 use Rattle.letters.specs.Sets.{bandsOf}
-use Rattle.runs.specs.Runs.{hasHigh, leadOf}
+use Rattle.runs.specs.Runs.{hasHigh, valueFrom, valueOf, leadingDigits, leadOf}
 use Rattle.reader.specs.Head.{letterIn, isInv, zoneWrong, headOf}
 use Rattle.reader.proofs.head_of.Statement.{statement}
 use Rattle.reader.proofs.head_of.Tie as tie
@@ -80,8 +80,18 @@ returns-2 c = let i = c .before in two _ (plain (i .before)) (sym (i .is-inv .en
 lead-of-requires : tie.Need-lead-of-requires
 lead-of-requires c κs = search needs
 
+-- no digits have the value 0
+no-value : (ds : List ℕ) → length ds ≡ 0 → min 61 (valueOf ds) ≡ 0
+unfolding valueFrom
+no-value [] h = refl
+no-value (d ∷ ds) h = absurd (omega arith)
+
+no-zone : (s : List ℕ) → leadOf s .count ≡ 0 → leadOf s .value ≡ 0
+unfolding leadOf
+no-zone s h = no-value (leadingDigits s) h
+
 is-zone-wrong-requires : tie.Need-is-zone-wrong-requires
-is-zone-wrong-requires c κs = search needs
+is-zone-wrong-requires c κs = rw (c .lead-of .ensures) (no-zone _)
 
 no-inv : (c : tie.Else2) → isInv (c .before .before .before .before .before .args .s .now) ≡ false
 no-inv c = sym (c .before .is-inv .ensures) ∙ c .if2 .left

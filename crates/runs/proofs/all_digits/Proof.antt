@@ -1,70 +1,62 @@
--- `runs::all_digits` meets its contract: what was found, and what is found from i on, is what is found in all.
+-- `runs::all_digits` meets its contract: the first eight bytes and the last eight leave none between them.
 -- Assumes nothing.
-use mathlib.Core.Path.{_≡_, refl, sym, _∙_}
-use mathlib.Core.Bool.{Bool, true, false, _&&_}
-use mathlib.Core.List.{List}
-use Prim.Native.Nat.{ℕ, _+_, _-_, _≤_, _<_}
-use native.Mathlib.Numerals.{add-one}
+use mathlib.Core.Path.{_≡_, _∙_}
 use borrow.Author.Needs.{needs}
-use lib.ListN.{length, getD, drop, drop-of-length-le}
-use lib.Seq.{drop-cons}
-use Rattle.runs.specs.Runs.{isDigit, allDigits}
-use Rattle.runs.proofs.Laws.{and-assoc}
+use native.Mathlib.Omega.{arith}
+use lib.ListN.{length-take}
+use Rattle.runs.proofs.High.{all-eights}
+use Rattle.runs.proofs.Laws.{rest}
 use Rattle.runs.proofs.all_digits.Statement.{statement}
 use Rattle.runs.proofs.all_digits.Tie as tie
 
-abbrev Inv-loop : tie.InvT-loop
-Inv-loop s all₀ i₀ all i = allDigits s ≡ (all && allDigits (drop i s))
+all-digits-in-requires : tie.Need-all-digits-in-requires
+all-digits-in-requires c κs = search needs
 
-abbrev μ-loop : tie.MeasureT-loop
-μ-loop s all₀ i₀ all i = length s - i
+returns : tie.Need-returns
+returns c = search needs
 
-and-true : (a : Bool) → (a && true) ≡ a
-and-true true = refl
-and-true false = refl
+all-digits-in-requires-2 : tie.Need-all-digits-in-requires-2
+all-digits-in-requires-2 c κs = search needs
 
-turn : (s : List ℕ) (i : ℕ) (all : Bool) → i < length s → (all && allDigits (drop i s)) ≡ ((all && isDigit (getD s i 0)) && allDigits (drop (i + 1) s))
-unfolding allDigits
-turn s i all h = rw (add-one, drop-cons s i 0) (and-assoc all _ _)
+returns-2 : tie.Need-returns-2
+returns-2 c = search needs
 
-end : (s : List ℕ) (i : ℕ) (all : Bool) → length s ≤ i → (all && allDigits (drop i s)) ≡ all
-unfolding allDigits
-end s i all h = rw (drop-of-length-le s h) (and-true all)
+slice-aggregate-all-digits-in : tie.Need-slice-aggregate-all-digits-in
+slice-aggregate-all-digits-in c = simp length-take (omega (arith, c .before .before .if1 .left))
 
-loop-holds : tie.Need-loop-holds Inv-loop μ-loop
-loop-holds c = refl
+all-digits-in-requires-3 : tie.Need-all-digits-in-requires-3
+all-digits-in-requires-3 c κs = search needs
 
-shared-slice-read-is-digit : tie.Need-shared-slice-read-is-digit Inv-loop μ-loop
-shared-slice-read-is-digit c = search needs
+sub-all-digits-in : tie.Need-sub-all-digits-in
+sub-all-digits-in c = search needs
 
-is-digit-requires : tie.Need-is-digit-requires Inv-loop μ-loop
-is-digit-requires c κs = search needs
+part-all-digits-in-start : tie.Need-part-all-digits-in-start
+part-all-digits-in-start c = search needs
 
-add-i : tie.Need-add-i Inv-loop μ-loop
-add-i c = search needs
+part-all-digits-in-end : tie.Need-part-all-digits-in-end
+part-all-digits-in-end c = search needs
 
-loop-less : tie.Need-loop-less Inv-loop μ-loop
-loop-less c = search needs
+all-digits-in-requires-4 : tie.Need-all-digits-in-requires-4
+all-digits-in-requires-4 c κs = search needs
 
-loop-again : tie.Need-loop-again Inv-loop μ-loop
-loop-again c =
-    let t = c .before .before in
-    let l = t .before in
-    rw (c .is-digit .ensures) (l .loop .inv ∙ turn (l .before .before .args .s .now) (l .loop .i) (l .loop .all) (t .loop-test .taken))
-
-returns : tie.Need-returns Inv-loop μ-loop
-returns c = sym (c .before .loop .inv ∙ end _ _ _ (c .loop-test .left))
+returns-3 : tie.Need-returns-3
+returns-3 c =
+    let f = c .before .before in
+    let e = f .before .before in
+    rw (f .all-digits-in3 .ensures, c .all-digits-in4 .ensures, rest) (all-eights _ (e .before .if1 .left) (e .if2 .left))
 
 pub all-digits-spec : {M : Type 1} → statement M
 all-digits-spec =
     tie.close
     (tie.spec
-    Inv-loop
-    μ-loop
-    loop-holds
-    shared-slice-read-is-digit
-    is-digit-requires
-    add-i
-    loop-less
-    loop-again
-    returns)
+    all-digits-in-requires
+    returns
+    all-digits-in-requires-2
+    returns-2
+    slice-aggregate-all-digits-in
+    all-digits-in-requires-3
+    sub-all-digits-in
+    part-all-digits-in-start
+    part-all-digits-in-end
+    all-digits-in-requires-4
+    returns-3)

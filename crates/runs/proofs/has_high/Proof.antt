@@ -1,15 +1,12 @@
 -- `runs::has_high` meets its contract: the first eight bytes and the last eight leave none between them.
 -- Assumes nothing.
 use mathlib.Core.Path.{_≡_, _∙_}
-use mathlib.Core.List.{List}
-use Prim.Native.Nat.{ℕ, _-_, _≤_}
-use native.Mathlib.Omega.{arith}
 use borrow.Author.Needs.{needs}
-use lib.Bits.{bitOr}
-use lib.ListN.{length, take, drop, length-drop}
-use lib.Seq.{take-all}
-use Rattle.runs.specs.Runs.{high, hasHigh}
-use Rattle.runs.proofs.High.{together, both-ends}
+use native.Mathlib.Omega.{arith}
+use lib.ListN.{length-take}
+use Rattle.runs.specs.Runs.{hasHigh}
+use Rattle.runs.proofs.High.{high-split, eights}
+use Rattle.runs.proofs.Laws.{rest}
 use Rattle.runs.proofs.has_high.Statement.{statement}
 use Rattle.runs.proofs.has_high.Tie as tie
 
@@ -25,21 +22,29 @@ has-high-in-requires-2 c κs = search needs
 returns-2 : tie.Need-returns-2
 returns-2 c = search needs
 
-eight-requires : tie.Need-eight-requires
-eight-requires c κs = search needs
+slice-aggregate-has-high-in : tie.Need-slice-aggregate-has-high-in
+slice-aggregate-has-high-in c = simp length-take (omega (arith, c .before .before .if1 .left))
 
-eight-requires-2 : tie.Need-eight-requires-2
-eight-requires-2 c κs = search needs
+has-high-in-requires-3 : tie.Need-has-high-in-requires-3
+has-high-in-requires-3 c κs = search needs
 
-ends : (s : List ℕ) (a b : ℕ) → 8 ≤ length s → length s ≤ 16 → high a ≡ hasHigh (take 8 s) → high b ≡ hasHigh (take 8 (drop (length s - 8) s)) → high (bitOr a b) ≡ hasHigh s
-ends s a b h k e f =
-    let g : take 8 (drop (length s - 8) s) ≡ drop (length s - 8) s = take-all 8 _ (omega (arith, length-drop (length s - 8) s)) in
-    together a b ∙ rw (e, f, g) (both-ends s 8 (length s - 8) (omega arith))
+sub-has-high-in : tie.Need-sub-has-high-in
+sub-has-high-in c = search needs
+
+part-has-high-in-start : tie.Need-part-has-high-in-start
+part-has-high-in-start c = search needs
+
+part-has-high-in-end : tie.Need-part-has-high-in-end
+part-has-high-in-end c = search needs
+
+has-high-in-requires-4 : tie.Need-has-high-in-requires-4
+has-high-in-requires-4 c κs = search needs
 
 returns-3 : tie.Need-returns-3
 returns-3 c =
-    let e = c .before .before in
-    ends _ (c .before .eight .result) (c .eight2 .result) (e .before .if1 .left) (e .if2 .left) (c .before .eight .ensures) (c .eight2 .ensures)
+    let f = c .before .before in
+    let e = f .before .before in
+    rw (f .has-high-in3 .ensures, c .has-high-in4 .ensures, rest) (eights hasHigh high-split _ (e .before .if1 .left) (e .if2 .left))
 
 pub has-high-spec : {M : Type 1} → statement M
 has-high-spec =
@@ -49,6 +54,10 @@ has-high-spec =
     returns
     has-high-in-requires-2
     returns-2
-    eight-requires
-    eight-requires-2
+    slice-aggregate-has-high-in
+    has-high-in-requires-3
+    sub-has-high-in
+    part-has-high-in-start
+    part-has-high-in-end
+    has-high-in-requires-4
     returns-3)

@@ -1,7 +1,7 @@
 -- `runs::then_digit` meets its contract: a digit's byte is 48 to 57, the rest is arithmetic.
 -- Assumes nothing.
+use mathlib.Core.Path.{_≡_}
 use native.Mathlib.Omega.{arith}
-use mathlib.Core.Path.{refl}
 use Rattle.runs.proofs.Laws.{digit-range}
 use Rattle.runs.proofs.then_digit.Statement.{statement}
 use Rattle.runs.proofs.then_digit.Tie as tie
@@ -9,17 +9,14 @@ use Rattle.runs.proofs.then_digit.Tie as tie
 mul-result : tie.Need-mul-result
 mul-result c = omega arith
 
-sub-result : tie.Need-sub-result
-sub-result c = omega (arith, digit-range _ (c .pre .1))
-
-cast-result : tie.Need-cast-result
-cast-result c = omega (arith, digit-range _ (c .pre .1))
-
 add-result : tie.Need-add-result
 add-result c = omega (arith, digit-range _ (c .pre .1))
 
+sub-result : tie.Need-sub-result
+sub-result c = omega (arith, digit-range _ (c .pre .1))
+
 returns : tie.Need-returns
-returns c = refl
+returns c = omega (arith, digit-range _ (c .pre .1))
 
 pub then-digit-spec : {M : Type 1} → statement M
-then-digit-spec = tie.close (tie.spec mul-result sub-result cast-result add-result returns)
+then-digit-spec = tie.close (tie.spec mul-result add-result sub-result returns)
