@@ -6,8 +6,8 @@ use Prim.Native.Nat.{ℕ, zero, suc, _-_, _≤_}
 use native.Mathlib.Omega.{arith}
 use borrow.Author.Tests.{le-leb, lt-leb, leb-true, leb-false}
 use lib.Bits.{bitOr, or-lt, or-add-and, and-le-l, and-le-r}
-use lib.ListN.{length, take, drop}
-use lib.Seq.{take-take}
+use lib.ListN.{length, take, drop, length-drop}
+use lib.Seq.{take-take, take-all}
 use Rattle.runs.specs.Runs.{high, hasHigh, allDigits}
 use Rattle.runs.proofs.Laws.{all-split}
 
@@ -57,21 +57,23 @@ both-ends f split s n m h =
 
 -- so of a text of 8 to 16 bytes the first eight and the last eight tell it
 pub eights : (f : List ℕ → Bool) → ((n : ℕ) (s : List ℕ) → f s ≡ (f (take n s) || f (drop n s))) → (s : List ℕ) → 8 ≤ length s → length s ≤ 16
-    → (f (take 8 s) || f (drop (length s - 8) s)) ≡ f s
-eights f split s h k = both-ends f split s 8 (length s - 8) (omega arith)
+    → (f (take 8 s) || f (take 8 (drop (length s - 8) s))) ≡ f s
+eights f split s h k =
+    let g : take 8 (drop (length s - 8) s) ≡ drop (length s - 8) s = take-all 8 _ (omega (arith, length-drop (length s - 8) s)) in
+    rw g (both-ends f split s 8 (length s - 8) (omega arith))
 
 -- that all bytes are digits is told by the same parts: not all are exactly if not all of one part are
-not-and : (a b : Bool) → not (a && b) ≡ (not a || not b)
+pub not-and : (a b : Bool) → not (a && b) ≡ (not a || not b)
 not-and true b = refl
 not-and false b = refl
 
-not-not : (a : Bool) → not (not a) ≡ a
+pub not-not : (a : Bool) → not (not a) ≡ a
 not-not true = refl
 not-not false = refl
 
 others-split : (n : ℕ) (s : List ℕ) → not (allDigits s) ≡ (not (allDigits (take n s)) || not (allDigits (drop n s)))
 others-split n s = ap not (all-split n s) ∙ not-and (allDigits (take n s)) (allDigits (drop n s))
 
-pub all-eights : (s : List ℕ) → 8 ≤ length s → length s ≤ 16 → (allDigits (take 8 s) && allDigits (drop (length s - 8) s)) ≡ allDigits s
+pub all-eights : (s : List ℕ) → 8 ≤ length s → length s ≤ 16 → (allDigits (take 8 s) && allDigits (take 8 (drop (length s - 8) s))) ≡ allDigits s
 all-eights s h k =
     sym (not-not _) ∙ ap not (not-and (allDigits (take 8 s)) _ ∙ eights (λ t. not (allDigits t)) others-split s h k) ∙ not-not (allDigits s)

@@ -1,4 +1,5 @@
 pub mod Laws
 mod High
+mod Words
 pub mod Decimals
 pub mod Unique

@@ -4,9 +4,10 @@
 ghost use mathlib.Core.Path.{_≡_};
 ghost use mathlib.Core.Bool.{true};
 ghost use Prim.Native.Nat.{_+_, _-_, _*_, _≤_, _<_, min};
-ghost use lib.ListN.{length};
+ghost use lib.ListN.{length, take, drop};
 ghost use Rattle.runs.specs.Runs.{isDigit, allDigits, hasHigh, leadOf};
 ghost use Rattle.runs.specs.Digits.{halvesOf, digitsOf};
+ghost use Rattle.runs.specs.Words.{allBytes, wordOf, othersOf};
 
 // 0 to 9.
 pub fn is_digit(b: u8) -> bool
@@ -35,6 +36,32 @@ fn has_high_in(s: &[u8]) -> bool
 // Of at most so many bytes, and at least eight, the first eight and the last eight are all; eight are looked at in one step.
 const TWO_EIGHTS: usize = 16;
 
+// The bit of 128 of each of eight bytes.
+const HIGH_BITS: u64 = 0x8080808080808080;
+
+// Eight bytes as one number, the first the lowest. The compiler makes one read of it.
+fn word(s: &[u8], i: usize) -> u64
+    requires { ⌜ i + 8 ≤ length (now s) ⌝ }
+    ensures { λ r. ⌜ (r ≡ wordOf (take 8 (drop i (now (s .entry))))) × (allBytes (take 8 (drop i (now (s .entry)))) ≡ true) ⌝ }
+{
+    s[i] as u64
+        + s[i + 1] as u64 * 0x100
+        + s[i + 2] as u64 * 0x10000
+        + s[i + 3] as u64 * 0x1000000
+        + s[i + 4] as u64 * 0x100000000
+        + s[i + 5] as u64 * 0x10000000000
+        + s[i + 6] as u64 * 0x1000000000000
+        + s[i + 7] as u64 * 0x100000000000000
+}
+
+// Whether one of eight bytes is 128 or more.
+fn eight_high(s: &[u8], i: usize) -> bool
+    requires { ⌜ i + 8 ≤ length (now s) ⌝ }
+    ensures { λ r. ⌜ r ≡ hasHigh (take 8 (drop i (now (s .entry)))) ⌝ }
+{
+    word(s, i) & HIGH_BITS != 0
+}
+
 // Whether a byte of 128 or more stands anywhere. Most references have 8 to 16 bytes.
 pub fn has_high(s: &[u8]) -> bool
     ensures { λ r. ⌜ r ≡ hasHigh (now (s .entry)) ⌝ }
@@ -46,7 +73,7 @@ pub fn has_high(s: &[u8]) -> bool
     if TWO_EIGHTS < n {
         return has_high_in(s);
     }
-    has_high_in(&s[..8]) | has_high_in(&s[n - 8..])
+    eight_high(s, 0) | eight_high(s, n - 8)
 }
 
 // The number v followed by a digit. Eleven digits never wrap.
@@ -106,6 +133,23 @@ fn all_digits_in(s: &[u8]) -> bool
     all
 }
 
+// Of eight bytes as one number, a byte of 128 or more for each that is no digit. The digits are 0 to 9 beside 48, so 118 more is below
+// 128; the bit of 128 is left out of that sum, so that no byte reaches into the next, and put back after it.
+fn others(w: u64) -> u64
+    ensures { λ r. ⌜ r ≡ othersOf 8 w ⌝ }
+{
+    let t = w ^ 0x3030303030303030;
+    ((t & 0x7f7f7f7f7f7f7f7f) + 0x7676767676767676) | t
+}
+
+// Whether eight bytes are digits.
+fn eight_digits(s: &[u8], i: usize) -> bool
+    requires { ⌜ i + 8 ≤ length (now s) ⌝ }
+    ensures { λ r. ⌜ r ≡ allDigits (take 8 (drop i (now (s .entry)))) ⌝ }
+{
+    others(word(s, i)) & HIGH_BITS == 0
+}
+
 // Whether every byte is a digit.
 pub fn all_digits(s: &[u8]) -> bool
     ensures { λ r. ⌜ r ≡ allDigits (now (s .entry)) ⌝ }
@@ -117,7 +161,7 @@ pub fn all_digits(s: &[u8]) -> bool
     if TWO_EIGHTS < n {
         return all_digits_in(s);
     }
-    all_digits_in(&s[..8]) & all_digits_in(&s[n - 8..])
+    eight_digits(s, 0) & eight_digits(s, n - 8)
 }
 
 // Digits of each axis, and the two numbers that they spell.
