@@ -76,6 +76,10 @@ module _ (p t d : ℕ) (h : p ≤ 11) where
       let m = mul-lt-mul-of-pos-right k (ten-pos (11 - p)) in
       omega arith
 
+-- a tile's units and less than those of one more never wrap
+pub sum-lt : (t x : ℕ) → t < 256 → x < 200000000000 → t * 200000000000 + x < 2 ^ 63
+sum-lt t x h g = omega arith
+
 -- of the n-th square of p digits along an axis, counted from 0
 module _ (p n : ℕ) (h : p ≤ 11) where
   -- its corner is n sides from 0, its centre half a side more

@@ -1,6 +1,6 @@
 -- Digits of a number and the number of digits undo each other, once over their count. Assumes nothing.
 use mathlib.Core.Path.{_≡_, refl, sym, ap, _∙_}
-use mathlib.Core.Bool.{Bool, true, false, _&&_}
+use mathlib.Core.Bool.{Bool, true, false, _&&_, and-assoc}
 use mathlib.Core.List.{List, [], _∷_, _++_}
 use Prim.Native.Nat.{ℕ, zero, suc, _+_, _-_, _*_, _/_, _%_, _^_, _≤_, _<_}
 use native.Mathlib.Nat.{add-suc, add-zero, div-div-eq-div-mul, div-one, pow-succ'}
@@ -9,7 +9,7 @@ use borrow.Author.Tests.{lt-leb, le-leb, le-ltb}
 use lib.ListN.{length, take, length-append}
 use lib.Seq.{take-all, take-append-le}
 use Rattle.runs.specs.Runs.{hasHigh, isDigit, allDigits, valueFrom, valueOf, leadingDigits, lastDigits}
-use Rattle.runs.proofs.Laws.{and-left, and-right, and-assoc, digit-range, all-head, all-tail}
+use Rattle.runs.proofs.Laws.{and-left, and-right, digit-range, all-head, all-tail}
 
 pub digits-length : (n x : ℕ) → length (lastDigits n x) ≡ n
 unfolding lastDigits
@@ -21,7 +21,7 @@ digits-length (suc n) x = length-append (lastDigits n (x / 10)) _ ∙ omega (ari
 pub all-append : (ds es : List ℕ) → allDigits (ds ++ es) ≡ (allDigits ds && allDigits es)
 unfolding allDigits
 all-append [] es = refl
-all-append (d ∷ ds) es = rw (all-append ds es) (and-assoc (isDigit d) _ _)
+all-append (d ∷ ds) es = rw (all-append ds es) (sym (and-assoc (isDigit d) _ _))
 
 last-digit : (x : ℕ) → isDigit (48 + x % 10) ≡ true
 unfolding isDigit

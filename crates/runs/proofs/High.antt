@@ -1,6 +1,6 @@
 -- High bytes and others: of bytes put together, and of the parts of a text. Assumes nothing.
 use mathlib.Core.Path.{_≡_, refl, sym, ap, _∙_}
-use mathlib.Core.Bool.{Bool, true, false, not, _&&_, _||_}
+use mathlib.Core.Bool.{Bool, true, false, not, _&&_, _||_, or-assoc, Bool·not-not}
 use mathlib.Core.List.{List, [], _∷_}
 use Prim.Native.Nat.{ℕ, zero, suc, _-_, _≤_}
 use native.Mathlib.Omega.{arith}
@@ -10,14 +10,6 @@ use lib.ListN.{length, take, drop, length-drop}
 use lib.Seq.{take-take, take-all}
 use Rattle.runs.specs.Runs.{high, hasHigh, allDigits}
 use Rattle.runs.proofs.Laws.{all-split}
-
-pub or-assoc : (a b c : Bool) → (a || (b || c)) ≡ ((a || b) || c)
-or-assoc true b c = refl
-or-assoc false b c = refl
-
-pub or-false : (a : Bool) → (a || false) ≡ a
-or-false true = refl
-or-false false = refl
 
 -- two bytes together are high exactly if one of them is
 together-by : (a b : ℕ) (t u : Bool) → high a ≡ t → high b ≡ u → high (bitOr a b) ≡ (t || u)
@@ -36,7 +28,7 @@ pub high-split : (n : ℕ) (s : List ℕ) → hasHigh s ≡ (hasHigh (take n s) 
 unfolding hasHigh
 high-split zero s = refl
 high-split (suc n) [] = refl
-high-split (suc n) (b ∷ bs) = rw (high-split n bs) (or-assoc (high b) _ _)
+high-split (suc n) (b ∷ bs) = rw (high-split n bs) (sym (or-assoc (high b) _ _))
 
 -- a first part and a last one that leave nothing between them
 both-by : (front back before over after all : Bool) → all ≡ (before || back) → front ≡ (before || over) → all ≡ (front || after) → (front || back) ≡ all
@@ -67,13 +59,9 @@ pub not-and : (a b : Bool) → not (a && b) ≡ (not a || not b)
 not-and true b = refl
 not-and false b = refl
 
-pub not-not : (a : Bool) → not (not a) ≡ a
-not-not true = refl
-not-not false = refl
-
 others-split : (n : ℕ) (s : List ℕ) → not (allDigits s) ≡ (not (allDigits (take n s)) || not (allDigits (drop n s)))
 others-split n s = ap not (all-split n s) ∙ not-and (allDigits (take n s)) (allDigits (drop n s))
 
 pub all-eights : (s : List ℕ) → 8 ≤ length s → length s ≤ 16 → (allDigits (take 8 s) && allDigits (take 8 (drop (length s - 8) s))) ≡ allDigits s
 all-eights s h k =
-    sym (not-not _) ∙ ap not (not-and (allDigits (take 8 s)) _ ∙ eights (λ t. not (allDigits t)) others-split s h k) ∙ not-not (allDigits s)
+    sym (Bool·not-not _) ∙ ap not (not-and (allDigits (take 8 s)) _ ∙ eights (λ t. not (allDigits t)) others-split s h k) ∙ Bool·not-not (allDigits s)

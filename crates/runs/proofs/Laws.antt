@@ -1,6 +1,6 @@
 -- Digits and the numbers that they spell: what is cut on the way, how large a number of n digits is. Assumes nothing.
-use mathlib.Core.Path.{_≡_, refl}
-use mathlib.Core.Bool.{Bool, true, false, cond, _&&_}
+use mathlib.Core.Path.{_≡_, refl, sym}
+use mathlib.Core.Bool.{Bool, true, false, cond, _&&_, and-assoc}
 use mathlib.Core.List.{List, [], _∷_}
 use Prim.Native.Nat.{ℕ, zero, suc, _+_, _-_, _*_, _^_, _≤_, _<_, min}
 use native.Mathlib.Nat.{mul-le-mul-right, pow-succ'}
@@ -19,14 +19,6 @@ and-left false b e = e
 pub and-right : (a b : Bool) → (a && b) ≡ true → b ≡ true
 and-right true b e = e
 and-right false b e = cc
-
-pub and-false : (a : Bool) → (a && false) ≡ false
-and-false true = refl
-and-false false = refl
-
-pub and-assoc : (a b c : Bool) → (a && (b && c)) ≡ ((a && b) && c)
-and-assoc true b c = refl
-and-assoc false b c = refl
 
 range-by : (x : ℕ) (t : Bool) → ltb x 48 ≡ t → cond t false (leb x 57) ≡ true → (48 ≤ x) × (x ≤ 57)
 range-by x true e h = absurd (omega (arith, leb-true 1 0 h))
@@ -88,7 +80,7 @@ pub all-split : (n : ℕ) (ds : List ℕ) → allDigits ds ≡ (allDigits (take 
 unfolding allDigits
 all-split zero ds = refl
 all-split (suc n) [] = refl
-all-split (suc n) (d ∷ ds) = rw (all-split n ds) (and-assoc (isDigit d) _ _)
+all-split (suc n) (d ∷ ds) = rw (all-split n ds) (sym (and-assoc (isDigit d) _ _))
 
 -- n digits are below 10 to the n
 pub number-lt : (s : List ℕ) → allDigits s ≡ true → valueOf s < 10 ^ length s

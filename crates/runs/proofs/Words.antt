@@ -1,20 +1,20 @@
 -- Eight bytes as one number: a test of the bit of 128 of all of them is the test of each. Assumes nothing.
-use mathlib.Core.Path.{_≡_, refl, sym, ap, _∙_}
-use mathlib.Core.Bool.{Bool, true, false, cond, not, _&&_, _||_}
+use mathlib.Core.Path.{_≡_, refl, _∙_}
+use mathlib.Core.Bool.{Bool, true, false, cond, not, _||_, Bool·not-not}
 use mathlib.Core.List.{List, [], _∷_}
-use Prim.Native.Nat.{ℕ, zero, suc, _+_, _-_, _*_, _^_, _≤_, _<_}
+use Prim.Native.Nat.{ℕ, suc, _+_, _*_, _≤_, _<_}
 use native.Mathlib.Numerals.{add-one}
 use native.Mathlib.Omega.{arith}
 use borrow.Author.Tests.{eq-eqb, ne-eqb, eqb-true, eqb-false, ltb-true}
 use lib.Bits.{bitAnd, bitOr, bitXor, and-block, or-block, xor-block, and-le-r, xor-lt}
-use lib.Dec.{T, eqb, ltb, leb, lit<}
+use lib.Dec.{eqb, ltb, lit<}
 use lib.ListN.{length, getD, take, drop, length-take, length-drop}
 use lib.Seq.{drop-cons}
-use Rattle.whole.proofs.Table.{all, each, alike}
+use Rattle.whole.proofs.Table.{alike}
 use Rattle.runs.specs.Runs.{high, hasHigh, isDigit, allDigits}
 use Rattle.runs.specs.Words.{allBytes, wordOf, repeated, othersOf}
 use Rattle.runs.proofs.Laws.{and-left, and-right}
-use Rattle.runs.proofs.High.{not-and, not-not}
+use Rattle.runs.proofs.High.{not-and}
 
 -- a byte and what is above it, bit by bit
 and-byte : (a b r s : ℕ) → r < 256 → s < 256 → bitAnd (a * 256 + r) (b * 256 + s) ≡ bitAnd a b * 256 + bitAnd r s
@@ -86,7 +86,7 @@ pub word-digits : (bs : List ℕ) → length bs ≡ 8 → allBytes bs ≡ true �
 unfolding allDigits othersOf
 word-digits bs e h =
     rw e at (flagged (λ b. not (isDigit b)) (othersOf 1) othersOf refl digit-step digit-small digit-flag (λ s. not (allDigits s)) refl (λ b bs. not-and (isDigit b) (allDigits bs)) bs h)
-    ∙ not-not (allDigits bs)
+    ∙ Bool·not-not (allDigits bs)
 
 -- the eight bytes from a place on
 next : (s : List ℕ) (i j n : ℕ) → j ≡ i + 1 → i < length s → take (suc n) (drop i s) ≡ getD s i 0 ∷ take n (drop j s)

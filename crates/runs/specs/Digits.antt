@@ -10,10 +10,11 @@ use Rattle.runs.specs.declared.DigitsAnswer.{DigitsAnswer}
 use Rattle.runs.specs.declared.DigitsAnswer.the-variants.{Halves, NoHalves}
 use Rattle.runs.specs.Runs.{allDigits, valueOf}
 
--- "Otherwise the digits halve into easting and northing": two halves of one length.
+-- What two halves of one length spell.
 abbrev pub halvesOf : List ℕ → List ℕ → Digits
 halvesOf a b = record { p = pos (length a); easting = valueOf a; northing = valueOf b }
 
+-- "Otherwise the digits halve into easting and northing"
 unfoldable pub digitsOf : List ℕ → DigitsAnswer
 digitsOf ds =
     let half = length ds / 2 in

@@ -133,8 +133,8 @@ fn all_digits_in(s: &[u8]) -> bool
     all
 }
 
-// Of eight bytes as one number, a byte of 128 or more for each that is no digit. The digits are 0 to 9 beside 48, so 118 more is below
-// 128; the bit of 128 is left out of that sum, so that no byte reaches into the next, and put back after it.
+// Of eight bytes as one number, a byte of 128 or more for each that is no digit. Where they differ from 48, bit by bit, digits are 0
+// to 9, so 118 more is below 128; the bit of 128 is left out of that sum, so that no byte reaches into the next, and put back after it.
 fn others(w: u64) -> u64
     ensures { λ r. ⌜ r ≡ othersOf 8 w ⌝ }
 {

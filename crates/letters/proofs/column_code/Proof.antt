@@ -1,8 +1,7 @@
 -- `letters::column_code` meets its contract: the table is the list of the codes of the places, by computation.
 -- Assumes nothing.
 use mathlib.Core.Path.{_≡_, refl, ap, sym, _∙_}
-use Prim.Native.Nat.{ℕ, _+_, _-_, _<_}
-use Prim.Native.Char.{code}
+use Prim.Native.Nat.{_+_, _-_}
 use native.Mathlib.Omega.{arith}
 use borrow.Author.Needs.{needs}
 use lib.ListN.{getD}

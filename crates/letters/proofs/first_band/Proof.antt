@@ -1,6 +1,6 @@
 -- `letters::first_band` meets its contract, by what `is_north` ensures.
 -- Assumes nothing.
-use mathlib.Core.Path.{_≡_, sym, _∙_}
+use mathlib.Core.Path.{sym, _∙_}
 use borrow.Author.Needs.{needs}
 use Rattle.letters.proofs.first_band.Statement.{statement}
 use Rattle.letters.proofs.first_band.Tie as tie

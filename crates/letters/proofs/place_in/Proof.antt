@@ -1,6 +1,6 @@
 -- `letters::place_in` meets its contract: a code is in the run as its place is.
 -- Assumes nothing.
-use mathlib.Core.Path.{_≡_, ap, _∙_}
+use mathlib.Core.Path.{ap, _∙_}
 use native.Mathlib.Omega.{arith}
 use borrow.Author.Needs.{needs}
 use Rattle.letters.specs.Tables.{within, placeIn}

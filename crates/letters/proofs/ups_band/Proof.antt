@@ -1,6 +1,6 @@
 -- `letters::ups_band` meets its contract: the run is the set's.
 -- Assumes nothing.
-use mathlib.Core.Path.{_≡_, _∙_}
+use mathlib.Core.Path.{_∙_}
 use lib.Dec.{lit≤}
 use Rattle.letters.specs.Letters.{UpsBands}
 use Rattle.letters.specs.Tables.{runOf}

@@ -1,6 +1,6 @@
 -- `letters::ups_count` meets its contract: every byte's count, by computation, is the one of its side or none.
 -- Assumes nothing.
-use mathlib.Core.Path.{_≡_, sym, _∙_}
+use mathlib.Core.Path.{sym, _∙_}
 use borrow.Author.Needs.{needs}
 use Rattle.letters.proofs.Runs.{count-of}
 use Rattle.letters.proofs.ups_count.Statement.{statement}

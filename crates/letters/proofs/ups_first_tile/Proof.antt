@@ -1,6 +1,6 @@
 -- `letters::ups_first_tile` meets its contract: every byte's tile, by computation, is the one of its case or none.
 -- Assumes nothing.
-use mathlib.Core.Path.{_≡_, sym, _∙_}
+use mathlib.Core.Path.{sym, _∙_}
 use borrow.Author.Needs.{needs}
 use borrow.Author.Tests.{eq-eqb, ne-eqb}
 use Rattle.letters.proofs.Runs.{tile-of}

@@ -8,7 +8,7 @@ use Prim.Native.Nat.{ℕ, _+_, _-_, _*_, _^_, _≤_, _<_}
 use native.Mathlib.Omega.{arith}
 use Rattle.whole.proofs.Powers.{ten-is, ten-le}
 use Rattle.position.specs.Squares.{countOf, numberOf, centre, centreOf}
-use Rattle.position.proofs.Squares.{counted, none, centre-at, centre-split, in-tile}
+use Rattle.position.proofs.Squares.{counted, none, centre-at, centre-split, in-tile, sum-lt}
 use lib.IntN.{ℤ, pos}
 use mir.Syntax.{w64}
 use mir.Facts.{toZ-ofZ, toZ-pos}
@@ -88,9 +88,6 @@ add-units c = let h = little c in record { fits = omega arith }
 
 mul-units-3 : tie.Need-mul-units-3
 mul-units-3 c = let h = inner c in record { fits = lt-trans h (omega arith) }
-
-sum-lt : (t x : ℕ) → t < 256 → x < 200000000000 → t * 200000000000 + x < 2 ^ 63
-sum-lt t x h g = omega arith
 
 tile-lt : (c : tie.After-power-of-ten2) → c .before .before .before .before .before .args .tile < 256
 tile-lt c = search needs

@@ -1,16 +1,14 @@
 -- `reader::centre_at` meets its contract: a tile and less than one more tile never wrap.
 -- Assumes nothing.
-use Prim.Native.Nat.{ℕ, _+_, _*_, _^_, _<_}
+use Prim.Native.Nat.{_+_, _*_, _^_, _<_}
 use native.Mathlib.Nat.{lt-trans}
 use native.Mathlib.Omega.{arith}
 use borrow.Author.Needs.{needs}
 use mir.Syntax.{w64}
 use mir.Facts.{toZ-pos}
+use Rattle.position.proofs.Squares.{sum-lt}
 use Rattle.reader.proofs.centre_at.Statement.{statement}
 use Rattle.reader.proofs.centre_at.Tie as tie
-
-sum-lt : (t x : ℕ) → t < 256 → x < 200000000000 → t * 200000000000 + x < 2 ^ 63
-sum-lt t x h g = omega arith
 
 sum : (c : tie.Start) → c .args .tile * 200000000000 + (2 * c .args .digits + 1) * c .args .half < 2 ^ 63
 sum c = sum-lt _ _ (c .fits .tile .fits) (c .pre .1)

@@ -1,6 +1,5 @@
 -- `runs::all_digits` meets its contract: the first eight bytes and the last eight leave none between them.
 -- Assumes nothing.
-use mathlib.Core.Path.{_≡_}
 use borrow.Author.Needs.{needs}
 use Rattle.runs.proofs.High.{all-eights}
 use Rattle.runs.proofs.all_digits.Statement.{statement}

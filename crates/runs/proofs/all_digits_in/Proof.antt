@@ -1,7 +1,7 @@
 -- `runs::all_digits_in` meets its contract: what was found, and what is found from i on, is what is found in all.
 -- Assumes nothing.
 use mathlib.Core.Path.{_≡_, refl, sym, _∙_}
-use mathlib.Core.Bool.{Bool, true, false, _&&_}
+use mathlib.Core.Bool.{Bool, _&&_, and-true, and-assoc}
 use mathlib.Core.List.{List}
 use Prim.Native.Nat.{ℕ, _+_, _-_, _≤_, _<_}
 use native.Mathlib.Numerals.{add-one}
@@ -9,7 +9,6 @@ use borrow.Author.Needs.{needs}
 use lib.ListN.{length, getD, drop, drop-of-length-le}
 use lib.Seq.{drop-cons}
 use Rattle.runs.specs.Runs.{isDigit, allDigits}
-use Rattle.runs.proofs.Laws.{and-assoc}
 use Rattle.runs.proofs.all_digits_in.Statement.{statement}
 use Rattle.runs.proofs.all_digits_in.Tie as tie
 
@@ -19,13 +18,9 @@ Inv-loop s all₀ i₀ all i = allDigits s ≡ (all && allDigits (drop i s))
 abbrev μ-loop : tie.MeasureT-loop
 μ-loop s all₀ i₀ all i = length s - i
 
-and-true : (a : Bool) → (a && true) ≡ a
-and-true true = refl
-and-true false = refl
-
 turn : (s : List ℕ) (i : ℕ) (all : Bool) → i < length s → (all && allDigits (drop i s)) ≡ ((all && isDigit (getD s i 0)) && allDigits (drop (i + 1) s))
 unfolding allDigits
-turn s i all h = rw (add-one, drop-cons s i 0) (and-assoc all _ _)
+turn s i all h = rw (add-one, drop-cons s i 0) (sym (and-assoc all _ _))
 
 end : (s : List ℕ) (i : ℕ) (all : Bool) → length s ≤ i → (all && allDigits (drop i s)) ≡ all
 unfolding allDigits

@@ -7,7 +7,7 @@ use Prim.Native.Nat.{ℕ, _/_}
 use native.Mathlib.Omega.{arith}
 use borrow.Author.Needs.{needs}
 use borrow.Author.Tests.{eq-eqb, ne-eqb, lt-ltb, le-ltb, not-true, not-false}
-use lib.ListN.{length, take, drop, length-take, length-drop}
+use lib.ListN.{length, take, length-take, length-drop}
 use Rattle.runs.specs.declared.DigitsAnswer.the-variants.{Halves}
 use Rattle.runs.specs.Runs.{allDigits}
 use Rattle.runs.specs.Digits.{digitsOf}

@@ -1,6 +1,5 @@
 -- `runs::eight_digits` meets its contract: no bit of 128 stands in what is left exactly if every byte is a digit.
 -- Assumes nothing.
-use mathlib.Core.Path.{_≡_}
 use borrow.Author.Needs.{needs}
 use Rattle.runs.proofs.Words.{word-digits, eight-long}
 use Rattle.runs.proofs.eight_digits.Statement.{statement}

@@ -3,7 +3,7 @@
 use mathlib.Core.Path.{_≡_, refl, sym, _∙_}
 use mathlib.Core.Bool.{true}
 use mathlib.Core.List.{List}
-use Prim.Native.Nat.{ℕ, suc, _+_, _-_, _*_, _^_, _≤_, _<_}
+use Prim.Native.Nat.{ℕ, _+_, _-_, _*_, _^_, _≤_, _<_}
 use native.Mathlib.Nat.{pow-succ'}
 use native.Mathlib.Numerals.{add-one}
 use native.Mathlib.Omega.{arith}
@@ -13,7 +13,7 @@ use lib.Seq.{drop-cons}
 use mir.Syntax.{w64}
 use mir.Facts.{toZ-pos}
 use Rattle.whole.proofs.Powers.{ten-le}
-use Rattle.runs.specs.Runs.{isDigit, allDigits, valueFrom, valueOf}
+use Rattle.runs.specs.Runs.{allDigits, valueFrom, valueOf}
 use Rattle.runs.proofs.Laws.{digit-range, digit-at}
 use Rattle.runs.proofs.halves_of.Statement.{statement}
 use Rattle.runs.proofs.halves_of.Tie as tie

@@ -1,6 +1,5 @@
 -- `runs::has_high` meets its contract: the first eight bytes and the last eight leave none between them.
 -- Assumes nothing.
-use mathlib.Core.Path.{_≡_}
 use borrow.Author.Needs.{needs}
 use Rattle.runs.specs.Runs.{hasHigh}
 use Rattle.runs.proofs.High.{high-split, eights}

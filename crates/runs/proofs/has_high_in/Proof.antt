@@ -1,7 +1,7 @@
 -- `runs::has_high_in` meets its contract: what was found in all bytes together, or is found from i on, is what is found in all.
 -- Assumes nothing.
 use mathlib.Core.Path.{_≡_, refl, sym, _∙_}
-use mathlib.Core.Bool.{_||_}
+use mathlib.Core.Bool.{_||_, or-assoc, or-false}
 use mathlib.Core.List.{List}
 use Prim.Native.Nat.{ℕ, _+_, _-_, _≤_, _<_}
 use native.Mathlib.Numerals.{add-one}
@@ -10,7 +10,7 @@ use lib.Bits.{bitOr}
 use lib.ListN.{length, getD, drop, drop-of-length-le}
 use lib.Seq.{drop-cons}
 use Rattle.runs.specs.Runs.{high, hasHigh}
-use Rattle.runs.proofs.High.{or-assoc, or-false, together}
+use Rattle.runs.proofs.High.{together}
 use Rattle.runs.proofs.has_high_in.Statement.{statement}
 use Rattle.runs.proofs.has_high_in.Tie as tie
 
@@ -22,7 +22,7 @@ abbrev μ-loop : tie.MeasureT-loop
 
 turn : (s : List ℕ) (i all : ℕ) → i < length s → (high all || hasHigh (drop i s)) ≡ (high (bitOr all (getD s i 0)) || hasHigh (drop (i + 1) s))
 unfolding hasHigh
-turn s i all h = rw (add-one, drop-cons s i 0, together all (getD s i 0)) (or-assoc (high all) _ _)
+turn s i all h = rw (add-one, drop-cons s i 0, together all (getD s i 0)) (sym (or-assoc (high all) _ _))
 
 end : (s : List ℕ) (i all : ℕ) → length s ≤ i → (high all || hasHigh (drop i s)) ≡ high all
 unfolding hasHigh

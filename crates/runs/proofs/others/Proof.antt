@@ -1,7 +1,6 @@
 -- `runs::others` meets its contract: without the bits of 128 the sum never wraps.
 -- Assumes nothing.
-use mathlib.Core.Path.{_≡_, refl}
-use Prim.Native.Nat.{ℕ, _+_}
+use mathlib.Core.Path.{refl}
 use native.Mathlib.Omega.{arith}
 use lib.Bits.{bitXor, and-le-r}
 use Rattle.runs.specs.Words.{othersOf}
