@@ -8,8 +8,8 @@
 The gate shows that the prover refuses an edit. It cannot show that the edited program is wrong: an edit may be refused
 only because a proof no longer fits code that still answers rightly. So this applies each edit to a copy, runs a program
 on it unproved, and names the first line that differs from the program's stdout, what is said in its place, and for list
-the text that the line answers. The program is list for the edits of runs, reader and listing, and where that shows
-nothing in_metres and in_buffers; in_writing and then corners for those of composer, writer and squares, corners for those
+the text that the line answers. The program is list for the edits of runs, spelling, reader and listing, and where that
+shows nothing in_metres and in_buffers; in_writing and then corners for those of composer, writer and squares, corners for those
 of trip, exported for those of export; for all others ground, then in_writing, and then list. The edits of laws change what a
 theorem claims, and are not run. Run it at the repository's root after an edit or an example is added; it ends with status 1
 if some edit changes nothing.
@@ -18,7 +18,7 @@ import glob, os, re, shutil, subprocess, sys, tempfile
 
 READING = ("list", "in_metres", "in_buffers")
 WRITING = ("in_writing", "corners")
-PROGRAMS = {crate: READING for crate in ("runs", "reader", "listing")}
+PROGRAMS = {crate: READING for crate in ("runs", "spelling", "reader", "listing")}
 PROGRAMS.update((crate, WRITING) for crate in ("composer", "writer", "squares"))
 PROGRAMS["trip"] = ("corners",)
 PROGRAMS["export"] = ("exported",)

@@ -1,3 +1,4 @@
+mod Bytes
 pub mod Numerals
 pub mod Texts
 pub mod Fit

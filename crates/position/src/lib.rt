@@ -1,12 +1,12 @@
 // Positions: units, ranges and edge rules, squares, metres.
 use letters::Grid;
 ghost use mathlib.Core.Path.{_≡_};
-ghost use Prim.Native.Nat.{_<_, _^_};
+ghost use Prim.Native.Nat.{_<_};
 ghost use mathlib.Core.Bool.{true, false};
 ghost use lib.IntN.{pos, negsuc};
 ghost use mir.Syntax.{w64};
 ghost use mir.Val.{SFits};
-ghost use lib.Signed.{_≤ℤ_, mag};
+ghost use lib.Signed.{_≤ℤ_};
 ghost use Rattle.position.specs.Ranges.{tiles, eastings, northings, moved, outOf, judged, verdict, utmCheck};
 ghost use Rattle.position.specs.Edges.{lowered, sideOf, edge, mgrsCheck};
 ghost use Rattle.position.specs.Squares.{countOf, halfOf, sideLength, centreOf, cornerOf, southWest};
@@ -22,12 +22,12 @@ const SHIFT: i64 = 20_000_000_000_000;
 
 // What a reference stands for. Zone 0 is UPS; p is the digits of each axis, -1 for a bare zone.
 pub struct Position {
-    pub zone: i64,
-    pub north: bool,
-    pub band: u8,
     pub p: i64,
-    pub easting: i64,
+    pub zone: i64,
     pub northing: i64,
+    pub north: bool,
+    pub easting: i64,
+    pub band: u8,
 }
 
 // What a full reference is made of: the letters are capitals, the numbers are those of the digits.
@@ -349,7 +349,7 @@ fn is_exact(units: i64) -> bool
 
 // One exact cast and one rounded division.
 fn axis(units: i64) -> f64
-    requires { ⌜ mag units < 2 ^ 53 ⌝ }
+    requires { ⌜ exact units ≡ true ⌝ }
     ensures { λ r. ⌜ r ≡ metresOf units ⌝ }
 {
     units as f64 / 2_000_000.0

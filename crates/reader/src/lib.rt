@@ -1,12 +1,12 @@
 // Reads a reference: bytes to parts, parts to a position, or the number of the rule by which the text is turned away.
 use letters::Place;
 use position::Metres;
-use position::MetresAnswer;
 use position::Parts;
 use position::Position;
 use rows::RowAnswer;
 use runs::DigitsAnswer;
 use runs::Lead;
+use runs::ZoneLead;
 ghost use mathlib.Core.Path.{_≡_};
 ghost use mathlib.Core.Bool.{true};
 ghost use Prim.Native.Nat.{_+_, _*_, _^_, _≤_, _<_};
@@ -52,14 +52,12 @@ fn is_inv(s: &[u8]) -> bool
     letters::capital(s[2]) == b'V'
 }
 
-// No digits are no wrong zone: they are UPS. Their value is 0, so the value alone tells nearly every text apart.
+// Of a value up to 60 only 0 is wrong. No digits are no wrong zone, but UPS: their value is 0 too, so that the value alone tells nearly
+// every text apart.
 fn is_zone_wrong(lead: Lead) -> bool
-    requires { ⌜ (lead .count ≡ 0 → lead .value ≡ 0) ⌝ }
+    requires { ⌜ lead .value ≤ 60 ⌝ }
     ensures { λ r. ⌜ r ≡ zoneWrong lead ⌝ }
 {
-    if 60 < lead.value {
-        return true;
-    }
     if lead.value == 0 {
         return lead.count != 0;
     }
@@ -75,7 +73,9 @@ fn head_of(s: &[u8]) -> HeadAnswer
     if is_inv(s) {
         return HeadAnswer::NoStart(2);
     }
-    let lead = runs::lead_of(s);
+    let ZoneLead::Led(lead) = runs::zone_lead(s) else {
+        return HeadAnswer::NoStart(3);
+    };
     if is_zone_wrong(lead) {
         return HeadAnswer::NoStart(3);
     }
@@ -331,18 +331,16 @@ pub enum MetresRead {
     Refused(u64),
 }
 
-// The metres of a position that was read. None is too far to be exact: the second arm is proved never to be taken.
+const METRE_UNITS: f64 = 2_000_000.0;
+
+// The metres of a position that was read: none is too far to be exact. Each is one exact cast and one rounded division.
 fn metres_at(q: Position) -> Metres
     requires { ⌜ (exact (q .easting) ≡ true) × (exact (q .northing) ≡ true) ⌝ }
     ensures { λ r. ⌜ r ≡ metresAt q ⌝ }
 {
-    match position::metres_of(q.easting, q.northing) {
-        MetresAnswer::Exact(m) => m,
-        MetresAnswer::TooLarge => Metres {
-            easting: 0.0,
-            northing: 0.0,
-        },
-    }
+    let easting = q.easting as f64 / METRE_UNITS;
+    let northing = q.northing as f64 / METRE_UNITS;
+    Metres { easting, northing }
 }
 
 // Reads any bytes, and answers in metres.

@@ -1,13 +1,13 @@
 // The 100 km rows that a latitude band and a column allow, and the row that a row letter means.
 ghost use mathlib.Core.Path.{_≡_};
-ghost use Prim.Native.Nat.{_<_};
+ghost use Prim.Native.Nat.{_<_, _%_};
 ghost use lib.IntN.{pos, negsuc, _-ℤ_};
 ghost use lib.Signed.{_≤ℤ_};
 ghost use Rattle.rows.specs.Limits.{pairOf, limitsOf};
 ghost use Rattle.rows.specs.Allowed.{foldColumn, sameSign, foldedCase, between, folded, allowedBy, allowed};
 ghost use Rattle.rows.specs.Letters.{shiftOf, letterOf};
 ghost use Rattle.rows.specs.Resolve.{resolve};
-ghost use Rattle.rows.specs.Direct.{candidateFrom, unshifted};
+ghost use Rattle.rows.specs.Direct.{candidateFrom};
 
 // The lowest and the highest row of a band.
 pub struct Limits {
@@ -217,36 +217,38 @@ pub enum RowAnswer {
     Nothing,
 }
 
-// The only row with the letter among the twenty from one below the lowest.
-fn candidate_of(lowest: i64, letter: usize) -> i64
-    requires { ⌜ (negsuc 89 ≤ℤ lowest) × (lowest ≤ℤ pos 90) × (letter < 20) ⌝ }
-    ensures { λ r. ⌜ r ≡ candidateFrom lowest letter ⌝ }
+// The only row with the letter among the twenty from one below the lowest. The letter's place may be one round too far on, so
+// that one division serves both; a hundred more is five rounds more.
+fn candidate_of(lowest: i64, place: usize) -> i64
+    requires { ⌜ (negsuc 89 ≤ℤ lowest) × (lowest ≤ℤ pos 90) × (place < 40) ⌝ }
+    ensures { λ r. ⌜ r ≡ candidateFrom lowest (place % 20) ⌝ }
 {
     let base = lowest - 1;
-    base + whole::floor_mod(letter as i64 - base, 20) as i64
+    let gap = (place + 100) as i64 - base;
+    base + (gap as u64 % 20) as i64
 }
 
-// The row of a letter in an odd zone. The limits are looked up once.
-pub fn utm_row(band: i64, column: usize, letter: usize) -> RowAnswer
-    ensures { λ a. ⌜ a ≡ resolve 0 band column letter ⌝ }
+// The row of a letter in an odd zone, its place at most one round too far on. The limits are looked up once.
+fn row_from(band: i64, column: usize, place: usize) -> RowAnswer
+    requires { ⌜ place < 40 ⌝ }
+    ensures { λ a. ⌜ a ≡ resolve 0 band column (place % 20) ⌝ }
 {
-    if 20 <= letter {
-        return RowAnswer::Nothing;
-    }
     let l = limits_of(band);
-    let row = candidate_of(l.low, letter);
+    let row = candidate_of(l.low, place);
     if is_allowed_by(l, band, column, row) {
         return RowAnswer::Row(FoundRow { row });
     }
     RowAnswer::Nothing
 }
 
-// The letter's place as an odd zone counts it.
-fn unshifted_of(shift: u64, letter: usize) -> usize
-    requires { ⌜ letter < 20 ⌝ }
-    ensures { λ r. ⌜ r ≡ unshifted shift letter ⌝ }
+// The row of a letter in an odd zone.
+pub fn utm_row(band: i64, column: usize, letter: usize) -> RowAnswer
+    ensures { λ a. ⌜ a ≡ resolve 0 band column letter ⌝ }
 {
-    (letter + 20 - (shift % 20) as usize) % 20
+    if 20 <= letter {
+        return RowAnswer::Nothing;
+    }
+    row_from(band, column, letter)
 }
 
 // The row of a letter at any shift: 0 in odd zones, 5 in even ones.
@@ -256,5 +258,5 @@ pub fn utm_row_at(shift: u64, band: i64, column: usize, letter: usize) -> RowAns
     if 20 <= letter {
         return RowAnswer::Nothing;
     }
-    utm_row(band, column, unshifted_of(shift, letter))
+    row_from(band, column, letter + 20 - (shift % 20) as usize)
 }

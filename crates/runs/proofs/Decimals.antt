@@ -3,7 +3,7 @@ use mathlib.Core.Path.{_≡_, refl, sym, ap, _∙_}
 use mathlib.Core.Bool.{Bool, true, false, _&&_, and-assoc}
 use mathlib.Core.List.{List, [], _∷_, _++_}
 use Prim.Native.Nat.{ℕ, zero, suc, _+_, _-_, _*_, _/_, _%_, _^_, _≤_, _<_}
-use native.Mathlib.Nat.{add-suc, add-zero, div-div-eq-div-mul, div-one, pow-succ'}
+use native.Mathlib.Nat.{add-suc, add-zero, div-div-eq-div-mul, div-one, mod-add-div', mul-assoc, pow-suc, pow-succ'}
 use native.Mathlib.Omega.{arith}
 use borrow.Author.Tests.{lt-leb, le-leb, le-ltb}
 use lib.ListN.{length, take, length-append}
@@ -37,10 +37,14 @@ digits-all (suc n) x = all-append (lastDigits n (x / 10)) _ ∙ rw (digits-all n
 
 -- ---- their number
 
+pub value-append : (ds es : List ℕ) (a : ℕ) → valueFrom a (ds ++ es) ≡ valueFrom (valueFrom a ds) es
+unfolding valueFrom
+value-append [] es a = refl
+value-append (d ∷ ds) es a = value-append ds es (a * 10 + (d - 48))
+
 value-last : (ds : List ℕ) (a b : ℕ) → valueFrom a (ds ++ (b ∷ [])) ≡ valueFrom a ds * 10 + (b - 48)
 unfolding valueFrom
-value-last [] a b = refl
-value-last (d ∷ ds) a b = value-last ds (a * 10 + (d - 48)) b
+value-last ds a b = value-append ds (b ∷ []) a
 
 pub digits-value : (n x : ℕ) → x < 10 ^ n → valueOf (lastDigits n x) ≡ x
 unfolding lastDigits valueFrom
@@ -99,6 +103,20 @@ pub leading : (ds : List ℕ) (b : ℕ) (rest : List ℕ) → allDigits ds ≡ t
 unfolding leadingDigits
 leading [] b rest t n = rw n
 leading (d ∷ ds) b rest t n = rw (all-head d ds t, leading ds b rest (all-tail d ds t) n)
+
+-- ---- only what is below the n-th power of ten counts
+
+digits-above : (n a q : ℕ) → lastDigits n (a + q * 10 ^ n) ≡ lastDigits n a
+unfolding lastDigits
+digits-above zero a q = refl
+digits-above (suc n) a q =
+    let p : q * 10 ^ suc n ≡ q * 10 ^ n * 10 = rw (pow-suc 10 n, mul-assoc q (10 ^ n) 10) in
+    let d : (a + q * 10 ^ n * 10) / 10 ≡ a / 10 + q * 10 ^ n = omega arith in
+    let m : (a + q * 10 ^ n * 10) % 10 ≡ a % 10 = omega arith in
+    rw (p, d, m, digits-above n (a / 10) q)
+
+pub digits-mod : (n x : ℕ) → lastDigits n (x % 10 ^ n) ≡ lastDigits n x
+digits-mod n x = sym (digits-above n (x % 10 ^ n) (x / 10 ^ n)) ∙ ap (lastDigits n) (mod-add-div' x (10 ^ n))
 
 -- ---- the first of them
 

@@ -2,12 +2,13 @@
 use mathlib.Core.Path.{_≡_, refl, sym, ap, _∙_}
 use mathlib.Core.Bool.{Bool, true, false, not, _&&_, _||_, or-assoc, Bool·not-not}
 use mathlib.Core.List.{List, [], _∷_}
-use Prim.Native.Nat.{ℕ, zero, suc, _-_, _≤_}
+use Prim.Native.Nat.{ℕ, zero, suc, _+_, _-_, _≤_}
+use native.Mathlib.Nat.{zero-add, suc-add}
 use native.Mathlib.Omega.{arith}
 use borrow.Author.Tests.{le-leb, lt-leb, leb-true, leb-false}
 use lib.Bits.{bitOr, or-lt, or-add-and, and-le-l, and-le-r}
 use lib.ListN.{length, take, drop, length-drop}
-use lib.Seq.{take-take, take-all}
+use lib.Seq.{take-take, take-all, drop-drop}
 use Rattle.runs.specs.Runs.{high, hasHigh, allDigits}
 use Rattle.runs.proofs.Laws.{all-split}
 
@@ -47,12 +48,23 @@ both-ends f split s n m h =
     both-by (f (take n s)) (f (drop m s)) (f (take m s)) (f (drop m (take n s))) (f (drop n s)) (f s)
     (split m s) (split m (take n s) ∙ ap (λ (l : List ℕ). f l || f (drop m (take n s))) (take-take m n s h)) (split n s)
 
--- so of a text of 8 to 16 bytes the first eight and the last eight tell it
-pub eights : (f : List ℕ → Bool) → ((n : ℕ) (s : List ℕ) → f s ≡ (f (take n s) || f (drop n s))) → (s : List ℕ) → 8 ≤ length s → length s ≤ 16
-    → (f (take 8 s) || f (take 8 (drop (length s - 8) s))) ≡ f s
-eights f split s h k =
-    let g : take 8 (drop (length s - 8) s) ≡ drop (length s - 8) s = take-all 8 _ (omega (arith, length-drop (length s - 8) s)) in
-    rw g (both-ends f split s 8 (length s - 8) (omega arith))
+-- so of a text of m to twice m bytes the first m and the last m tell it
+pub ends : (f : List ℕ → Bool) → ((n : ℕ) (s : List ℕ) → f s ≡ (f (take n s) || f (drop n s))) → (m : ℕ) (s : List ℕ) → m ≤ length s → length s ≤ m + m
+    → (f (take m s) || f (take m (drop (length s - m) s))) ≡ f s
+ends f split m s h k =
+    let g : take m (drop (length s - m) s) ≡ drop (length s - m) s = take-all m _ (omega (arith, length-drop (length s - m) s)) in
+    rw g (both-ends f split s m (length s - m) (omega arith))
+
+pub drop-take : (n m : ℕ) (s : List ℕ) → drop n (take (n + m) s) ≡ take m (drop n s)
+drop-take zero m s = rw (zero-add m)
+drop-take (suc n) m [] = rw (suc-add n m) (sym (take-all m [] (omega arith)))
+drop-take (suc n) m (b ∷ s) = rw (suc-add n m) (drop-take n m s)
+
+-- and of sixteen bytes the first eight and the last
+pub sixteen : (f : List ℕ → Bool) → ((n : ℕ) (s : List ℕ) → f s ≡ (f (take n s) || f (drop n s))) → (s : List ℕ) (i : ℕ)
+    → (f (take 8 (drop i s)) || f (take 8 (drop (i + 8) s))) ≡ f (take 16 (drop i s))
+sixteen f split s i =
+    sym (split 8 (take 16 (drop i s)) ∙ rw (take-take 8 16 (drop i s) (omega arith), drop-take 8 8 (drop i s), drop-drop 8 i s))
 
 -- that all bytes are digits is told by the same parts: not all are exactly if not all of one part are
 pub not-and : (a b : Bool) → not (a && b) ≡ (not a || not b)
@@ -62,6 +74,12 @@ not-and false b = refl
 others-split : (n : ℕ) (s : List ℕ) → not (allDigits s) ≡ (not (allDigits (take n s)) || not (allDigits (drop n s)))
 others-split n s = ap not (all-split n s) ∙ not-and (allDigits (take n s)) (allDigits (drop n s))
 
-pub all-eights : (s : List ℕ) → 8 ≤ length s → length s ≤ 16 → (allDigits (take 8 s) && allDigits (take 8 (drop (length s - 8) s))) ≡ allDigits s
-all-eights s h k =
-    sym (Bool·not-not _) ∙ ap not (not-and (allDigits (take 8 s)) _ ∙ eights (λ t. not (allDigits t)) others-split s h k) ∙ Bool·not-not (allDigits s)
+-- two parts that tell whether not all are digits tell whether all are
+pub all-by : (s t u : List ℕ) → (not (allDigits s) || not (allDigits t)) ≡ not (allDigits u) → (allDigits s && allDigits t) ≡ allDigits u
+all-by s t u e = sym (Bool·not-not _) ∙ ap not (not-and (allDigits s) (allDigits t) ∙ e) ∙ Bool·not-not (allDigits u)
+
+pub all-ends : (m : ℕ) (s : List ℕ) → m ≤ length s → length s ≤ m + m → (allDigits (take m s) && allDigits (take m (drop (length s - m) s))) ≡ allDigits s
+all-ends m s h k = all-by (take m s) (take m (drop (length s - m) s)) s (ends (λ t. not (allDigits t)) others-split m s h k)
+
+pub all-sixteen : (s : List ℕ) (i : ℕ) → (allDigits (take 8 (drop i s)) && allDigits (take 8 (drop (i + 8) s))) ≡ allDigits (take 16 (drop i s))
+all-sixteen s i = all-by (take 8 (drop i s)) (take 8 (drop (i + 8) s)) (take 16 (drop i s)) (sixteen (λ t. not (allDigits t)) others-split s i)

@@ -1,8 +1,8 @@
--- Digits and the numbers that they spell: what is cut on the way, how large a number of n digits is. Assumes nothing.
-use mathlib.Core.Path.{_≡_, refl, sym}
+-- Digits and the numbers that they spell: how a number grows, how large one of n digits is, parts of digits. Assumes nothing.
+use mathlib.Core.Path.{_≡_, refl, sym, _∙_}
 use mathlib.Core.Bool.{Bool, true, false, cond, _&&_, and-assoc}
 use mathlib.Core.List.{List, [], _∷_}
-use Prim.Native.Nat.{ℕ, zero, suc, _+_, _-_, _*_, _^_, _≤_, _<_, min}
+use Prim.Native.Nat.{ℕ, zero, suc, _+_, _-_, _*_, _^_, _≤_, _<_}
 use native.Mathlib.Nat.{mul-le-mul-right, pow-succ'}
 use native.Mathlib.Numerals.{add-one}
 use native.Mathlib.Omega.{arith}
@@ -28,11 +28,11 @@ pub digit-range : (x : ℕ) → isDigit x ≡ true → (48 ≤ x) × (x ≤ 57)
 unfolding isDigit
 digit-range x t = range-by x (ltb x 48) refl t
 
--- cutting to a limit on the way changes nothing of what is cut to it at the end
-pub sat : (limit : ℕ) (ds : List ℕ) (a b : ℕ) → min limit a ≡ min limit b → min limit (valueFrom a ds) ≡ min limit (valueFrom b ds)
+-- a number followed by digits is no less
+pub grows : (ds : List ℕ) (a : ℕ) → a ≤ valueFrom a ds
 unfolding valueFrom
-sat limit [] a b e = e
-sat limit (d ∷ ds) a b e = sat limit ds (a * 10 + (d - 48)) (b * 10 + (d - 48)) (omega arith)
+grows [] a = omega arith
+grows (d ∷ ds) a = omega (arith, grows ds (a * 10 + (d - 48)))
 
 -- the digits from the place i on: none past the end or at another byte, else that digit and those after it
 module _ (s : List ℕ) (i : ℕ) where
@@ -85,3 +85,13 @@ all-split (suc n) (d ∷ ds) = rw (all-split n ds) (sym (and-assoc (isDigit d) _
 -- n digits are below 10 to the n
 pub number-lt : (s : List ℕ) → allDigits s ≡ true → valueOf s < 10 ^ length s
 number-lt s t = omega (arith, below s 0 t)
+
+-- parts of digits: the first n, those after them, and j from the place i on
+pub all-front : (s : List ℕ) (n : ℕ) → allDigits s ≡ true → allDigits (take n s) ≡ true
+all-front s n t = and-left _ _ (sym (all-split n s) ∙ t)
+
+pub all-rest : (s : List ℕ) (n : ℕ) → allDigits s ≡ true → allDigits (drop n s) ≡ true
+all-rest s n t = and-right (allDigits (take n s)) _ (sym (all-split n s) ∙ t)
+
+pub all-part : (s : List ℕ) (i j : ℕ) → allDigits s ≡ true → allDigits (take j (drop i s)) ≡ true
+all-part s i j t = all-front (drop i s) j (all-rest s i t)

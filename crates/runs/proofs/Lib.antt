@@ -1,5 +1,6 @@
 pub mod Laws
 mod High
-mod Words
+pub mod Words
+pub mod Eights
 pub mod Decimals
 pub mod Unique

@@ -6,6 +6,8 @@ use Prim.Native.Char.{code}
 use lib.Dec.{ltb, leb}
 use lib.ListN.{length}
 use Rattle.runs.specs.declared.Lead.{Lead}
+use Rattle.runs.specs.declared.ZoneLead.{ZoneLead}
+use Rattle.runs.specs.declared.ZoneLead.the-variants.{Led, Past}
 
 -- "a byte of 128 or more"
 abbrev pub high : ℕ → Bool
@@ -42,6 +44,10 @@ leadingDigits (b ∷ bs) = cond (isDigit b) (b ∷ leadingDigits bs) []
 -- Their number and "their value", cut to 61: what is more is "not 1..60" all the same.
 unfoldable pub leadOf : List ℕ → Lead
 leadOf s = record { count = length (leadingDigits s); value = min 61 (valueOf (leadingDigits s)) }
+
+-- The same, or that the value is more than 60: "not 1..60" is told by that alone.
+unfoldable pub zoneLead : List ℕ → ZoneLead
+zoneLead s = cond (ltb 60 (leadOf s .value)) Past (Led (leadOf s))
 
 -- The last n digits of a number, zeros in front where it has fewer.
 unfoldable pub lastDigits : ℕ → ℕ → List ℕ

@@ -42,6 +42,17 @@ digit-step (suc n) x at l h =
     let e : suc n - 1 ≡ n = omega arith in
     rw e (sets-last (lastDigits n (x / 10)) l at (48 + x % 10) ∙ rw digits-length)
 
+-- and two
+pub two-step : (n x at : ℕ) (l : List ℕ) → 2 ≤ n
+    → sets l at (lastDigits n x) ≡ sets (set (set l (at + (n - 2) + 1) (48 + x % 100 % 10)) (at + (n - 2)) (48 + x % 100 / 10)) at (lastDigits (n - 2) (x / 100))
+two-step n x at l h =
+    let k : n - 1 - 1 ≡ n - 2 = omega arith in
+    let i : at + (n - 1) ≡ at + (n - 2) + 1 = omega arith in
+    let d : x % 10 ≡ x % 100 % 10 = omega arith in
+    let e : x / 10 % 10 ≡ x % 100 / 10 = omega arith in
+    let q : x / 10 / 10 ≡ x / 100 = omega arith in
+    rw (← i, ← k, ← d, ← e, ← q) (digit-step n x at l (omega arith) ∙ digit-step (n - 1) (x / 10) at (set l (at + (n - 1)) (48 + x % 10)) (omega arith))
+
 -- ---- the texts' lengths
 
 head-by : (zone : ℤ) (band : ℕ) (t : Bool) → length (cond t (band ∷ []) (lastDigits 2 (fold zone) ++ (band ∷ []))) ≡ cond t 1 3

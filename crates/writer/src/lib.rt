@@ -10,17 +10,22 @@ ghost use Rattle.runs.specs.Runs.{lastDigits};
 ghost use Rattle.writer.specs.Text.{headText, headLength, blockText, fullText};
 ghost use Rattle.writer.specs.Write.{fitOf, leavesOf, writeOf, writeLeaves};
 
-// The last `count` digits of a number, from a place on; the last of them first.
+// The last `count` digits of a number, from a place on; the last two of them first.
 fn put_digits(out: &mut [u8], at: usize, count: usize, number: u64)
     requires { ⌜ at + count ≤ length (now out) ⌝ }
     ensures { λ _. ⌜ now (out .exit) ≡ sets (now (out .entry)) at (lastDigits count number) ⌝ }
 {
     let mut k = count;
     let mut rest = number;
-    while 0 < k {
-        k -= 1;
-        out[at + k] = b'0' + (rest % 10) as u8;
-        rest = rest / 10;
+    while 2 <= k {
+        k -= 2;
+        let two = rest % 100;
+        out[at + k + 1] = b'0' + (two % 10) as u8;
+        out[at + k] = b'0' + (two / 10) as u8;
+        rest = rest / 100;
+    }
+    if 0 < k {
+        out[at] = b'0' + (rest % 10) as u8;
     }
 }
 

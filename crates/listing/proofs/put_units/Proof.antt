@@ -31,9 +31,9 @@ returns c =
     let a = b .before .before .before .before .before in
     let s = a .before .before .before in
     let told = b .before .struct-told .given in
-    let north = toZ-ofZ {w = w64} {z = s .args .q .northing} (record { sfits = told .1 .1 .1 .1 .1 .0 .1 }) in
+    let north = toZ-ofZ {w = w64} {z = s .args .q .northing} (record { sfits = told .1 .1 .0 .1 }) in
     let east = toZ-ofZ {w = w64} {z = s .args .q .easting} (record { sfits = told .1 .1 .1 .1 .0 .1 }) in
-    let p = toZ-ofZ {w = w64} {z = s .args .q .p} (record { sfits = told .1 .1 .1 .0 .1 }) in
+    let p = toZ-ofZ {w = w64} {z = s .args .q .p} (record { sfits = told .0 .1 }) in
     let w = a .put .ensures .0 in
     let x = b .put-field .ensures in
     let y = g .put-field2 .ensures in

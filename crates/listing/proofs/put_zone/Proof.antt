@@ -33,7 +33,7 @@ returns c =
     let b = g .before .before .before .before .before in
     let a = b .before .before .before .before .before in
     let s = a .before .before .before in
-    let zone = toZ-ofZ {w = w64} {z = s .args .q .zone} (record { sfits = g .before .struct-told .given .0 .1 }) in
+    let zone = toZ-ofZ {w = w64} {z = s .args .q .zone} (record { sfits = g .before .struct-told .given .1 .0 .1 }) in
     let w = a .put-letter .ensures .0 in
     let x = b .put-letter2 .ensures .0 in
     let y = g .put-field .ensures in

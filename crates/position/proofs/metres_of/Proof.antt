@@ -1,29 +1,12 @@
 -- `position::metres_of` meets its contract, by what `is_exact` and `axis` ensure.
 -- Assumes nothing.
-use mathlib.Core.Path.{_≡_, refl, sym, _∙_}
-use mathlib.Core.Bool.{Bool, true, false}
+use mathlib.Core.Path.{_≡_, sym, _∙_}
+use mathlib.Core.Bool.{true}
 use borrow.Author.Needs.{needs}
-use Prim.Native.Nat.{_^_, _<_}
-use native.Mathlib.Omega.{arith}
-use borrow.Author.Tests.{ltb-true, ltb-false}
-use lib.Signed.{mag, ltZ}
-use mathlib.Core.Bool.{cond}
-use Rattle.whole.proofs.Parts.{clash}
-use Rattle.position.specs.Metres.{exact, metresAt}
-use lib.IntN.{ℤ, pos, negsuc}
 use mir.Facts.{toZ-ofZ}
+use Rattle.position.specs.Metres.{exact, metresAt}
 use Rattle.position.proofs.metres_of.Statement.{statement}
 use Rattle.position.proofs.metres_of.Tie as tie
-
--- an exact count is below 2 ^ 53 in size
-exact-by : (z : ℤ) (a b : Bool) → ltZ z (negsuc 9007199254740991) ≡ a → ltZ z (pos 9007199254740992) ≡ b → cond a false b ≡ true → mag z < 2 ^ 53
-exact-by z true b p q e = clash (cc)
-exact-by (pos n) false b p q e = ltb-true n 9007199254740992 (q ∙ e)
-exact-by (negsuc n) false b p q e = let k = ltb-false 9007199254740991 n p in omega arith
-
-is-small : (z : ℤ) → exact z ≡ true → mag z < 2 ^ 53
-unfolding exact
-is-small z e = exact-by z (ltZ z (negsuc 9007199254740991)) (ltZ z (pos 9007199254740992)) refl refl e
 
 east : (c : tie.After-is-exact) → c .is-exact .result ≡ exact (c .before .args .easting)
 east c = rw (toZ-ofZ (c .before .fits .easting)) at (c .is-exact .ensures)
@@ -44,13 +27,13 @@ north-yes : (c : tie.Then2) → exact (c .before .before .before .before .args .
 north-yes c = sym (north (c .before)) ∙ c .if2 .taken
 
 axis-requires : tie.Need-axis-requires
-axis-requires c κs = let s = c .before .before .before .before in rw (toZ-ofZ (s .fits .easting)) (is-small (s .args .easting) (east-yes c))
+axis-requires c κs = let s = c .before .before .before .before in rw (toZ-ofZ (s .fits .easting)) (east-yes c)
 
 axis-requires-2 : tie.Need-axis-requires-2
 axis-requires-2 c κs =
     let t = c .before in
     let s = t .before .before .before .before in
-    rw (toZ-ofZ (s .fits .northing)) (is-small (s .args .northing) (north-yes t))
+    rw (toZ-ofZ (s .fits .northing)) (north-yes t)
 
 returns : tie.Need-returns
 unfolding metresAt

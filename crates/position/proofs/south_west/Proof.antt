@@ -11,16 +11,16 @@ use Rattle.position.proofs.south_west.Tie as tie
 
 -- the signed fields, as they are read back
 zone-back : (c : tie.After-struct-told) → toZ w64 (ofZ w64 (c .before .args .q .zone)) ≡ c .before .args .q .zone
-zone-back c = toZ-ofZ {w = w64} {z = c .before .args .q .zone} (record { sfits = c .struct-told .given .0 .1 })
+zone-back c = toZ-ofZ {w = w64} {z = c .before .args .q .zone} (record { sfits = c .struct-told .given .1 .0 .1 })
 
 p-back : (c : tie.After-struct-told) → toZ w64 (ofZ w64 (c .before .args .q .p)) ≡ c .before .args .q .p
-p-back c = toZ-ofZ {w = w64} {z = c .before .args .q .p} (record { sfits = c .struct-told .given .1 .1 .1 .0 .1 })
+p-back c = toZ-ofZ {w = w64} {z = c .before .args .q .p} (record { sfits = c .struct-told .given .0 .1 })
 
 easting-back : (c : tie.After-struct-told) → toZ w64 (ofZ w64 (c .before .args .q .easting)) ≡ c .before .args .q .easting
 easting-back c = toZ-ofZ {w = w64} {z = c .before .args .q .easting} (record { sfits = c .struct-told .given .1 .1 .1 .1 .0 .1 })
 
 northing-back : (c : tie.After-struct-told) → toZ w64 (ofZ w64 (c .before .args .q .northing)) ≡ c .before .args .q .northing
-northing-back c = toZ-ofZ {w = w64} {z = c .before .args .q .northing} (record { sfits = c .struct-told .given .1 .1 .1 .1 .1 .0 .1 })
+northing-back c = toZ-ofZ {w = w64} {z = c .before .args .q .northing} (record { sfits = c .struct-told .given .1 .1 .0 .1 })
 
 corner-of-requires : tie.Need-corner-of-requires
 corner-of-requires c κs = search needs

@@ -1,40 +1,30 @@
--- `reader::metres_at` meets its contract, by what `metres_of` ensures of exact counts.
+-- `reader::metres_at` meets its contract: exact counts are cast exactly, and the literal is the number 2,000,000.
 -- Assumes nothing.
-use mathlib.Core.Path.{_≡_, sym, _∙_}
-use borrow.Author.Needs.{needs}
+use mathlib.Core.Path.{_≡_}
 use mir.Syntax.{w64}
+use mir.Val.{toZ, ofZ}
 use mir.Facts.{toZ-ofZ}
-use Rattle.whole.proofs.Parts.{clash}
-use Rattle.position.specs.declared.MetresAnswer.the-variants.{Exact}
-use Rattle.position.specs.Metres.{metresAt as answerAt}
-use Rattle.reader.specs.Metres.{metresAt}
+use Rattle.position.specs.Metres.{metresOf}
+use Rattle.position.proofs.Exact.{exact-float, two-million}
 use Rattle.reader.proofs.metres_at.Statement.{statement}
 use Rattle.reader.proofs.metres_at.Tie as tie
 
-metres-of-requires : tie.Need-metres-of-requires
-metres-of-requires c κs = search needs
+-- the signed fields, as they are read back
+easting : (c : tie.After-struct-told) → let s = c .before .before in toZ w64 (ofZ w64 (s .args .q .easting)) ≡ s .args .q .easting
+easting c = toZ-ofZ {w = w64} {z = c .before .before .args .q .easting} (record { sfits = c .struct-told .given .1 .1 .1 .1 .0 .1 })
 
-enum-known-m : tie.Need-enum-known-m
-enum-known-m c = search needs
+northing : (c : tie.After-struct-told2) → let s = c .before .before .before .before in toZ w64 (ofZ w64 (s .args .q .northing)) ≡ s .args .q .northing
+northing c = toZ-ofZ {w = w64} {z = c .before .before .before .before .args .q .northing} (record { sfits = c .struct-told2 .given .1 .1 .0 .1 })
 
-enum-told : tie.Need-enum-told
-enum-told c = search needs
+int-to-float-easting : tie.Need-int-to-float-easting
+int-to-float-easting c = rw (easting c) (exact-float _ (c .before .before .pre .0))
 
--- the answer is the exact one
-exactly : (c : tie.After-metres-of) → c .metres-of .result ≡ Exact (metresAt (c .before .before .before .args .q))
-unfolding answerAt
-exactly c =
-    let f = c .before in
-    let s = f .before .before in
-    let e = toZ-ofZ {w = w64} {z = s .args .q .easting} (record { sfits = f .struct-told2 .given .1 .1 .1 .1 .0 .1 }) in
-    let n = toZ-ofZ {w = w64} {z = s .args .q .northing} (record { sfits = f .struct-told2 .given .1 .1 .1 .1 .1 .0 .1 }) in
-    (rw (e, n) at (c .metres-of .ensures)) ∙ rw (s .pre .0, s .pre .1)
+int-to-float-northing : tie.Need-int-to-float-northing
+int-to-float-northing c = rw (northing c) (exact-float _ (c .before .before .before .before .pre .1))
 
 returns : tie.Need-returns
-returns c = let m = c .before in let k = sym (m .m .given .1) ∙ exactly (m .before .before) in cc
-
-returns-2 : tie.Need-returns-2
-returns-2 c = let k = sym (c .enum-told .given .1) ∙ exactly (c .before .before) in clash (cc)
+unfolding metresOf
+returns c = rw (easting (c .before .before), northing c, two-million)
 
 pub metres-at-spec : {M : Type 1} → statement M
-metres-at-spec = tie.close (tie.spec metres-of-requires enum-known-m enum-told returns returns-2)
+metres-at-spec = tie.close (tie.spec int-to-float-easting int-to-float-northing returns)

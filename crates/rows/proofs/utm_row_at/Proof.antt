@@ -1,8 +1,9 @@
--- `rows::utm_row_at` meets its contract, by what `utm_row` ensures of the letter of an odd zone.
+-- `rows::utm_row_at` meets its contract: less the shift, the letter's place is that of an odd zone, or one round further on.
 -- Assumes nothing.
 use mathlib.Core.Path.{sym, _∙_}
 use borrow.Author.Needs.{needs}
 use mir.Facts.{toZ-ofZ}
+use Rattle.rows.specs.Direct.{unshifted}
 use Rattle.rows.proofs.Theorems.{no-letter, shifted}
 use Rattle.rows.proofs.utm_row_at.Statement.{statement}
 use Rattle.rows.proofs.utm_row_at.Tie as tie
@@ -10,18 +11,22 @@ use Rattle.rows.proofs.utm_row_at.Tie as tie
 returns : tie.Need-returns
 returns c = let s = c .before in sym (no-letter (s .args .band) (s .args .column) (s .args .shift) (s .args .letter) (c .if1 .taken))
 
-unshifted-of-requires : tie.Need-unshifted-of-requires
-unshifted-of-requires c κs = search needs
+add-row-from : tie.Need-add-row-from
+add-row-from c = search needs
 
-utm-row-requires : tie.Need-utm-row-requires
-utm-row-requires c κs = search needs
+sub-row-from : tie.Need-sub-row-from
+sub-row-from c = search needs
+
+row-from-requires : tie.Need-row-from-requires
+row-from-requires c κs = search needs
 
 returns-2 : tie.Need-returns-2
+unfolding unshifted
 returns-2 c =
-    let u = c .before in
-    let s = u .before .before in
-    (rw (toZ-ofZ (s .fits .band), u .unshifted-of .ensures) at (c .utm-row .ensures))
-    ∙ sym (shifted (s .args .band) (s .args .column) (s .args .shift) (s .args .letter) (u .before .if1 .left))
+    let s = c .before .before in
+    (rw (toZ-ofZ (s .fits .band)) at (c .row-from .ensures))
+    ∙ sym (shifted (s .args .band) (s .args .column) (s .args .shift) (s .args .letter) (c .before .if1 .left))
 
 pub utm-row-at-spec : {M : Type 1} → statement M
-utm-row-at-spec = tie.close (tie.spec returns unshifted-of-requires utm-row-requires returns-2)
+utm-row-at-spec =
+    tie.close (tie.spec returns add-row-from sub-row-from row-from-requires returns-2)

@@ -7,11 +7,10 @@ use Prim.Native.Nat.{ℕ, _/_}
 use native.Mathlib.Omega.{arith}
 use borrow.Author.Needs.{needs}
 use borrow.Author.Tests.{eq-eqb, ne-eqb, lt-ltb, le-ltb, not-true, not-false}
-use lib.ListN.{length, take, length-take, length-drop}
+use lib.ListN.{length, take, length-take}
 use Rattle.runs.specs.declared.DigitsAnswer.the-variants.{Halves}
 use Rattle.runs.specs.Runs.{allDigits}
 use Rattle.runs.specs.Digits.{digitsOf}
-use Rattle.runs.proofs.Laws.{and-left, and-right, all-split, rest}
 use Rattle.runs.proofs.digits_of.Statement.{statement}
 use Rattle.runs.proofs.digits_of.Tie as tie
 
@@ -34,24 +33,8 @@ returns-3 : tie.Need-returns-3
 unfolding digitsOf
 returns-3 c = let e = c .before in rw (digits (e .before), ne-eqb _ _ (e .if2 .left), lt-ltb _ _ (c .if3 .taken))
 
-slice-aggregate-halves-of : tie.Need-slice-aggregate-halves-of
-slice-aggregate-halves-of c = simp length-take (omega arith)
-
-sub-halves-of : tie.Need-sub-halves-of
-sub-halves-of c = search needs
-
-part-halves-of-start : tie.Need-part-halves-of-start
-part-halves-of-start c = search needs
-
-part-halves-of-end : tie.Need-part-halves-of-end
-part-halves-of-end c = search needs
-
-halves-of-requires : tie.Need-halves-of-requires
-halves-of-requires c κs =
-    let e = c .before .before in
-    let s = e .before .before .before .before .before .args .s .now in
-    let t = sym (all-split (length s / 2) s) ∙ digits (e .before .before) in
-    (simp (length-take, length-drop) (omega (arith, e .before .if2 .left, e .if3 .left)), simp length-take (omega (arith, e .if3 .left)), and-left _ _ t, rw (rest s (length s / 2)) (and-right (allDigits (take (length s / 2) s)) _ t))
+two-halves-requires : tie.Need-two-halves-requires
+two-halves-requires c κs = (omega (arith, c .before .if2 .left), omega (arith, c .if3 .left), digits (c .before .before))
 
 few : (s : List ℕ) → length (take (length s / 2) s) ≡ length s / 2
 few s = simp length-take (omega arith)
@@ -59,22 +42,11 @@ few s = simp length-take (omega arith)
 returns-4 : tie.Need-returns-4
 unfolding digitsOf
 returns-4 c =
-    let e = c .before .before .before in
-    let s = e .before .before .before .before .before .args .s .now in
+    let e = c .before in
     rw (digits (e .before .before), ne-eqb _ _ (e .before .if2 .left), le-ltb _ _ (e .if3 .left))
-    (ap Halves (rw (rest s (length s / 2), few s) at (c .halves-of .ensures)))
+    (ap Halves (rw (few (e .before .before .before .before .before .args .s .now)) at (c .two-halves .ensures)))
 
 pub digits-of-spec : {M : Type 1} → statement M
 digits-of-spec =
     tie.close
-    (tie.spec
-    all-digits-requires
-    returns
-    returns-2
-    returns-3
-    slice-aggregate-halves-of
-    sub-halves-of
-    part-halves-of-start
-    part-halves-of-end
-    halves-of-requires
-    returns-4)
+    (tie.spec all-digits-requires returns returns-2 returns-3 two-halves-requires returns-4)

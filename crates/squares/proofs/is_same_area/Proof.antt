@@ -16,7 +16,7 @@ returns c =
     let b = c .before in
     let a = b .before in
     let s = a .before in
-    rw (toZ-ofZ {w = w64} {z = s .args .a .zone} (record { sfits = a .struct-told .given .0 .1 }), toZ-ofZ {w = w64} {z = s .args .b .zone} (record { sfits = b .struct-told2 .given .0 .1 })) at (c .is-same .ensures)
+    rw (toZ-ofZ {w = w64} {z = s .args .a .zone} (record { sfits = a .struct-told .given .1 .0 .1 }), toZ-ofZ {w = w64} {z = s .args .b .zone} (record { sfits = b .struct-told2 .given .1 .0 .1 })) at (c .is-same .ensures)
 
 pub is-same-area-spec : {M : Type 1} → statement M
 is-same-area-spec = tie.close (tie.spec is-same-requires returns)

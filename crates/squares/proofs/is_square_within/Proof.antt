@@ -19,7 +19,7 @@ east c =
     let s = c .before .before .before .before .before in
     let d4 = c .before in
     let d3 = d4 .before in
-    rw (toZ-ofZ {w = w64} {z = s .args .a .p} (record { sfits = d3 .before .before .struct-told .given .1 .1 .1 .0 .1 }), toZ-ofZ {w = w64} {z = s .args .a .easting} (record { sfits = d3 .before .struct-told2 .given .1 .1 .1 .1 .0 .1 }), toZ-ofZ {w = w64} {z = s .args .b .p} (record { sfits = d3 .struct-told3 .given .1 .1 .1 .0 .1 }), toZ-ofZ {w = w64} {z = s .args .b .easting} (record { sfits = d4 .struct-told4 .given .1 .1 .1 .1 .0 .1 })) at (c .is-axis-within .ensures)
+    rw (toZ-ofZ {w = w64} {z = s .args .a .p} (record { sfits = d3 .before .before .struct-told .given .0 .1 }), toZ-ofZ {w = w64} {z = s .args .a .easting} (record { sfits = d3 .before .struct-told2 .given .1 .1 .1 .1 .0 .1 }), toZ-ofZ {w = w64} {z = s .args .b .p} (record { sfits = d3 .struct-told3 .given .0 .1 }), toZ-ofZ {w = w64} {z = s .args .b .easting} (record { sfits = d4 .struct-told4 .given .1 .1 .1 .1 .0 .1 })) at (c .is-axis-within .ensures)
 
 returns : tie.Need-returns
 unfolding squareWithin
@@ -29,7 +29,7 @@ returns c =
     let t = d5 .before in
     let w = t .before in
     let s = w .before .before .before .before .before in
-    let y = rw (toZ-ofZ {w = w64} {z = s .args .a .p} (record { sfits = d5 .struct-told5 .given .1 .1 .1 .0 .1 }), toZ-ofZ {w = w64} {z = s .args .a .northing} (record { sfits = d5 .struct-told5 .given .1 .1 .1 .1 .1 .0 .1 }), toZ-ofZ {w = w64} {z = s .args .b .p} (record { sfits = d8 .before .struct-told7 .given .1 .1 .1 .0 .1 }), toZ-ofZ {w = w64} {z = s .args .b .northing} (record { sfits = d8 .struct-told8 .given .1 .1 .1 .1 .1 .0 .1 })) at (c .is-axis-within2 .ensures) in
+    let y = rw (toZ-ofZ {w = w64} {z = s .args .a .p} (record { sfits = d5 .struct-told5 .given .0 .1 }), toZ-ofZ {w = w64} {z = s .args .a .northing} (record { sfits = d5 .struct-told5 .given .1 .1 .0 .1 }), toZ-ofZ {w = w64} {z = s .args .b .p} (record { sfits = d8 .before .struct-told7 .given .0 .1 }), toZ-ofZ {w = w64} {z = s .args .b .northing} (record { sfits = d8 .struct-told8 .given .1 .1 .0 .1 })) at (c .is-axis-within2 .ensures) in
     rw (sym (east w) ∙ t .if1 .taken, y)
 
 returns-2 : tie.Need-returns-2

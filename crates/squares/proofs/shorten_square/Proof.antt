@@ -16,7 +16,7 @@ is-outside-requires c κs = search needs
 test : (c : tie.After-is-outside) → let s = c .before .before .before in c .is-outside .result ≡ outside (pos 0) (s .args .x .p) (s .args .q)
 test c =
     let s = c .before .before .before in
-    rw (toZ-ofZ {w = w64} {z = s .args .x .p} (record { sfits = c .before .struct-told .given .1 .1 .1 .0 .1 }), toZ-ofZ (s .fits .q)) at (c .is-outside .ensures)
+    rw (toZ-ofZ {w = w64} {z = s .args .x .p} (record { sfits = c .before .struct-told .given .0 .1 }), toZ-ofZ (s .fits .q)) at (c .is-outside .ensures)
 
 returns : tie.Need-returns
 returns c = rw (sym (test (c .before)) ∙ c .if1 .taken) (refl, refl)
@@ -41,9 +41,9 @@ returns-2 c =
     let t = k .before in
     let s = t .before .before .before .before in
     let x = k .south-west .result in
-    let zone = toZ-ofZ {w = w64} {z = x .zone} (record { sfits = z .struct-told2 .given .0 .1 }) in
+    let zone = toZ-ofZ {w = w64} {z = x .zone} (record { sfits = z .struct-told2 .given .1 .0 .1 }) in
     let east = toZ-ofZ {w = w64} {z = x .easting} (record { sfits = e .struct-told3 .given .1 .1 .1 .1 .0 .1 }) in
-    let north = toZ-ofZ {w = w64} {z = x .northing} (record { sfits = n .struct-told4 .given .1 .1 .1 .1 .1 .0 .1 }) in
+    let north = toZ-ofZ {w = w64} {z = x .northing} (record { sfits = n .struct-told4 .given .1 .1 .0 .1 }) in
     let r = rw (zone, east, north, toZ-ofZ (s .fits .q), k .south-west .ensures) at (w .write .ensures) in
     rw (sym (test (t .before)) ∙ t .if1 .left) r
 

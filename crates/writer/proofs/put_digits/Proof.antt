@@ -2,13 +2,13 @@
 -- Assumes nothing.
 use mathlib.Core.Path.{_≡_, sym, _∙_}
 use mathlib.Core.List.{List}
-use Prim.Native.Nat.{ℕ, _≤_}
+use Prim.Native.Nat.{ℕ, _+_, _%_, _≤_, _<_}
 use native.Mathlib.Omega.{arith}
 use borrow.Author.Needs.{needs}
-use lib.ListN.{length, length-set}
+use lib.ListN.{length, set, length-set}
 use lib.Seq.{sets}
 use Rattle.runs.specs.Runs.{lastDigits}
-use Rattle.writer.proofs.Stores.{digit-step}
+use Rattle.writer.proofs.Stores.{two-step}
 use Rattle.writer.proofs.put_digits.Statement.{statement}
 use Rattle.writer.proofs.put_digits.Tie as tie
 
@@ -22,9 +22,6 @@ abbrev μ-loop : tie.MeasureT-loop
 loop-holds : tie.Need-loop-holds Inv-loop μ-loop
 loop-holds c = search needs
 
-sub-k : tie.Need-sub-k Inv-loop μ-loop
-sub-k c = search needs
-
 cast-out : tie.Need-cast-out Inv-loop μ-loop
 cast-out c = search needs
 
@@ -34,8 +31,23 @@ add-out c = search needs
 add-out-2 : tie.Need-add-out-2 Inv-loop μ-loop
 add-out-2 c = search needs
 
+add-out-3 : tie.Need-add-out-3 Inv-loop μ-loop
+add-out-3 c = search needs
+
 slice-write-out : tie.Need-slice-write-out Inv-loop μ-loop
 slice-write-out c = search needs
+
+cast-out-2 : tie.Need-cast-out-2 Inv-loop μ-loop
+cast-out-2 c = search needs
+
+add-out-4 : tie.Need-add-out-4 Inv-loop μ-loop
+add-out-4 c = search needs
+
+add-out-5 : tie.Need-add-out-5 Inv-loop μ-loop
+add-out-5 c = search needs
+
+slice-write-out-2 : tie.Need-slice-write-out-2 Inv-loop μ-loop
+slice-write-out-2 c = simp length-set (omega arith)
 
 loop-less : tie.Need-loop-less Inv-loop μ-loop
 loop-less c = search needs
@@ -43,18 +55,37 @@ loop-less c = search needs
 loop-again : tie.Need-loop-again Inv-loop μ-loop
 loop-again c =
     let l = c .before .loop in
-    (omega arith, simp length-set (l .inv .1), l .inv .2 ∙ digit-step _ _ _ _ (c .loop-test .taken))
+    (omega arith, simp length-set (l .inv .1), l .inv .2 ∙ two-step _ _ _ _ (c .loop-test .taken))
+
+cast-out-3 : tie.Need-cast-out-3 Inv-loop μ-loop
+cast-out-3 c = search needs
+
+add-out-6 : tie.Need-add-out-6 Inv-loop μ-loop
+add-out-6 c = search needs
+
+slice-write-out-3 : tie.Need-slice-write-out-3 Inv-loop μ-loop
+slice-write-out-3 c = search needs
+
+-- one digit is left, or none
+one : (l out : List ℕ) (at count number k rest : ℕ) → Inv-loop l at count number 0 0 out k rest → k < 2 → 0 < k → set out at (48 + rest % 10) ≡ sets l at (lastDigits count number)
+unfolding lastDigits
+one l out at count number k rest inv h g = let z : k ≡ 1 = omega arith in sym (rw z at (inv .2))
+
+none : (l out : List ℕ) (at count number k rest : ℕ) → Inv-loop l at count number 0 0 out k rest → k ≤ 0 → out ≡ sets l at (lastDigits count number)
+unfolding lastDigits
+none l out at count number k rest inv h = let z : k ≡ 0 = omega arith in sym (rw z at (inv .2))
 
 same-length : tie.Need-same-length Inv-loop μ-loop
-same-length c = search needs
-
--- no digit is left
-end : (l out : List ℕ) (at count number k rest : ℕ) → Inv-loop l at count number 0 0 out k rest → k ≤ 0 → out ≡ sets l at (lastDigits count number)
-unfolding lastDigits
-end l out at count number k rest inv h = let z : k ≡ 0 = omega arith in sym (rw z at (inv .2))
+same-length c = simp length-set (c .before .before .loop .inv .1)
 
 returns : tie.Need-returns Inv-loop μ-loop
-returns c = end _ _ _ _ _ _ _ (c .before .loop .inv) (c .loop-test .left)
+returns c = one _ _ _ _ _ _ _ (c .before .before .loop .inv) (c .before .loop-test .left) (c .if1 .taken)
+
+same-length-2 : tie.Need-same-length-2 Inv-loop μ-loop
+same-length-2 c = search needs
+
+returns-2 : tie.Need-returns-2 Inv-loop μ-loop
+returns-2 c = none _ _ _ _ _ _ _ (c .before .before .loop .inv) (c .if1 .left)
 
 pub put-digits-spec : {M : Type 1} → statement M
 put-digits-spec =
@@ -63,12 +94,21 @@ put-digits-spec =
     Inv-loop
     μ-loop
     loop-holds
-    sub-k
     cast-out
     add-out
     add-out-2
+    add-out-3
     slice-write-out
+    cast-out-2
+    add-out-4
+    add-out-5
+    slice-write-out-2
     loop-less
     loop-again
+    cast-out-3
+    add-out-6
+    slice-write-out-3
     same-length
-    returns)
+    returns
+    same-length-2
+    returns-2)

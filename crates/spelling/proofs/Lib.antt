@@ -1,0 +1,2 @@
+mod Ones
+pub mod Unique
