@@ -20,7 +20,8 @@ const TILE_UNITS: u64 = 200_000_000_000;
 // The northing at which the south ends, and by which the hemispheres are shifted: 100 tiles.
 const SHIFT: i64 = 20_000_000_000_000;
 
-// What a reference stands for. Zone 0 is UPS; p is the digits of each axis, -1 for a bare zone.
+// What a reference stands for. Zone 0 is UPS; p is the digits of each axis, -1 for a bare zone. In this order of the fields an answer
+// is copied in the pieces in which it was stored, and no copy waits.
 pub struct Position {
     pub p: i64,
     pub zone: i64,

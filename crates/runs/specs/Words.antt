@@ -1,4 +1,5 @@
--- Eight bytes as one number, which no public answer speaks of: that its tests are those of the bytes is proved. Assumes nothing.
+-- Bytes as one number. Of the public calls only `spelled` answers one; that the tests and sums of such a number are those of its
+-- bytes is proved. Assumes nothing.
 use mathlib.Core.Bool.{Bool, true, _&&_}
 use mathlib.Core.List.{List, [], _∷_}
 use Prim.Native.Nat.{ℕ, zero, suc, _+_, _*_, _/_}
