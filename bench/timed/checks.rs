@@ -1,5 +1,7 @@
 //! Before the clock runs every answer is held to the other sides': a benchmark of wrong answers is none.
+use crate::calls::Point;
 use crate::inputs::{number_of, Case};
+use crate::limit;
 use crate::numbers::range_number;
 use crate::ours;
 use crate::points::{Job, Jobs};
@@ -9,14 +11,19 @@ use geoconvert::Mgrs;
 /// What is wrong, in words; nothing where all is well.
 pub type Wrong = Result<(), String>;
 
-/// The metres answer is the units' one, divided once.
+/// The metres answer is the units' one, divided once; and plain C answers the same, also in what a refusal leaves.
 fn units_and_metres(text: &str) -> Result<(i64, [f64; 2]), String> {
-    let (mut position, mut metres) = ([0; 6], [0.0; 2]);
+    let (mut position, mut metres) = ([7; 6], [7.0; 2]);
     let answer = ours::read(text.as_bytes(), &mut position);
     let again = ours::read_metres(text.as_bytes(), &mut metres);
     let divided = [position[4] as f64 / 2_000_000.0, position[5] as f64 / 2_000_000.0];
     if answer != again || answer >= 0 && metres != divided {
         return Err(format!("{text}: mgrs_read and mgrs_read_metres part: {answer} {again}"));
+    }
+    let (mut units, mut f64s) = ([7; 6], [7.0; 2]);
+    let limit = (limit::read(text.as_bytes(), &mut units), limit::read_metres(text.as_bytes(), &mut f64s));
+    if (answer, answer) != limit || position != units || metres != f64s {
+        return Err(format!("{text}: ours {answer} {position:?}, plain C {limit:?} {units:?}"));
     }
     Ok((answer, metres))
 }
@@ -55,10 +62,10 @@ pub fn read(case: &Case) -> Wrong {
     Ok(())
 }
 
-/// What our writer does. Bytes beyond the text that did not stay are put behind it, so that it is not the text wanted.
-fn our_text(job: &Job) -> Result<String, u32> {
+/// What our writer does, or plain C's. Bytes beyond the text that did not stay are put behind it, so that it is not the text wanted.
+fn our_text(job: &Job, write: impl Fn(&Point, &mut [u8]) -> i64) -> Result<String, u32> {
     let mut out = [b'~'; 27];
-    let length = ours::write(&job.ours, &mut out[..job.room]);
+    let length = write(&job.ours, &mut out[..job.room]);
     let kept = out[length.max(0) as usize..].iter().all(|b| *b == b'~');
     match length {
         n if n < 0 && kept => Err(-n as u32),
@@ -84,8 +91,9 @@ fn their_text(job: &Job) -> Result<String, u32> {
 /// The Rust's texts were made from the points that it read; here they are made from the numbers, by `create`.
 pub fn write(row: &Jobs) -> Wrong {
     for job in &row.jobs {
-        if our_text(job) != job.answer {
-            return Err(format!("{:?}: ours {:?}, wanted {:?}", job.ours, our_text(job), job.answer));
+        let (ours, limit) = (our_text(job, ours::write), our_text(job, limit::write));
+        if ours != job.answer || limit != job.answer {
+            return Err(format!("{:?}: ours {ours:?}, plain C {limit:?}, wanted {:?}", job.ours, job.answer));
         }
         if row.shared && rust_text(job) != job.answer {
             return Err(format!("{:?}: the Rust {:?}, wanted {:?}", job.ours, rust_text(job), job.answer));

@@ -36,6 +36,15 @@ fn median(mut of: Vec<f64>) -> f64 {
 }
 
 impl Figure {
+    /// One number, which is the same in every round.
+    pub fn of(number: f64) -> Figure {
+        Figure(vec![number])
+    }
+
+    pub fn is_one(&self) -> bool {
+        self.0.len() == 1
+    }
+
     pub fn best(&self) -> f64 {
         self.0.iter().copied().fold(f64::MAX, f64::min)
     }

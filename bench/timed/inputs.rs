@@ -4,14 +4,18 @@ use crate::numbers::reading_number;
 use crate::rng::Rng;
 use geoconvert::{Error, Mgrs};
 
-/// So many inputs in every case: more than a processor keeps in mind of its branches.
+/// So many inputs in every case that is timed: more than a processor keeps in mind of its branches.
 pub const MANY: usize = 4096;
+/// And so many where instructions are counted, which takes an emulator a microsecond each.
+pub const FEW: usize = 64;
 pub const REFUSALS: u32 = 13;
 const FIXED: &str = "18TWL8566411131";
 
 /// The rows that the goals are about.
 pub const MIXED: &str = "UTM, 5+5, mixed";
 pub const POLAR: &str = "UPS, 5+5, mixed";
+pub const LONG: &str = "UTM, 11+11, mixed";
+pub const BARE: &str = "bare zones, mixed";
 pub const MIXTURE: &str = "refused, 1 to 13 mixed";
 
 /// The texts of one row of a table. `compared`: the Rust's answer is one that ours has to equal.
@@ -96,37 +100,45 @@ fn refused(rng: &mut Rng, number: u32) -> String {
     }
 }
 
-fn case(name: &str, mut make: impl FnMut(usize) -> String) -> Case {
-    Case { name: name.to_string(), texts: (0..MANY).map(&mut make).collect(), compared: true }
+fn case(name: &str, many: usize, make: impl FnMut(usize) -> String) -> Case {
+    Case { name: name.to_string(), texts: (0..many).map(make).collect(), compared: true }
 }
 
 /// The sound ones. The Rust reads more than seven digits an axis too, but its 32-bit sums wrap there.
-pub fn sound_cases(rng: &mut Rng) -> Vec<Case> {
-    let mixed = case(MIXED, |_| sound(rng, false, 5));
-    let small = case("UTM, 5+5, small letters", |k| mixed.texts[k].to_ascii_lowercase());
-    let mut cases = vec![case(FIXED, |_| FIXED.to_string()), mixed, small];
-    cases.push(case(POLAR, |_| sound(rng, true, 5)));
+pub fn sound_cases(rng: &mut Rng, many: usize) -> Vec<Case> {
+    let mixed = case(MIXED, many, |_| sound(rng, false, 5));
+    let small = case("UTM, 5+5, small letters", many, |k| mixed.texts[k].to_ascii_lowercase());
+    let mut cases = vec![case(FIXED, many, |_| FIXED.to_string()), mixed, small];
+    cases.push(case(POLAR, many, |_| sound(rng, true, 5)));
     for p in [0, 2, 7, 11] {
-        cases.push(case(&format!("UTM, {p}+{p}, mixed"), |_| sound(rng, false, p)));
+        cases.push(case(&format!("UTM, {p}+{p}, mixed"), many, |_| sound(rng, false, p)));
     }
     cases.last_mut().unwrap().compared = false;
-    cases.push(case("bare zones, mixed", |_| bare(rng)));
+    cases.push(case(BARE, many, |_| bare(rng)));
     cases
 }
 
 /// One case for each refusal, and the mixture of all of them in equal parts.
-pub fn refused_cases(rng: &mut Rng) -> Vec<Case> {
+pub fn refused_cases(rng: &mut Rng, many: usize) -> Vec<Case> {
     const WHY: [&str; REFUSALS as usize] = [
         "a byte of 128 or more", "INV", "the zone's value", "three zone digits", "nothing behind the zone", "the band",
         "no row letter", "the column", "the row", "the block", "a letter among digits", "9 digits", "24 digits",
     ];
     let named = |n: u32| format!("refused {n}: {}", WHY[n as usize - 1]);
-    let mut cases: Vec<Case> = (1..=REFUSALS).map(|n| case(&named(n), |_| refused(rng, n))).collect();
-    cases.push(case(MIXTURE, |_| {
+    let mut cases: Vec<Case> = (1..=REFUSALS).map(|n| case(&named(n), many, |_| refused(rng, n))).collect();
+    cases.push(case(MIXTURE, many, |_| {
         let number = 1 + rng.below(u64::from(REFUSALS)) as u32;
         refused(rng, number)
     }));
     cases
+}
+
+/// Cases without texts are filled with those that were drawn before, FEW to a case.
+pub fn fill<'a>(cases: impl Iterator<Item = &'a mut Case>, drawn: &str) {
+    let mut lines = drawn.lines();
+    for case in cases {
+        case.texts = lines.by_ref().take(FEW).map(str::to_string).collect();
+    }
 }
 
 /// Lines for the listing program: of sixteen, ten are UTM with 5 + 5 digits, one of these in small letters.

@@ -1,12 +1,20 @@
-//! Times reading and writing by our library, by the Rust and, where it is installed, by GeographicLib, in one process.
+//! Times reading and writing by our library, by the Rust, by plain C of the same rules and, where it is installed, by GeographicLib,
+//! in one process.
 //! Use: timed short|full SEED VERDICT      tables to standard output, how the goals stand to the file VERDICT
+//!      timed drawn SEED                   the texts for counting, to standard output: drawing them takes more than reading them
+//!      timed mark SEED TEXTS              the same calls, between the marks by which an emulator counts their instructions
+//!      timed counted SEED NUMBERS VERDICT tables and verdict of the numbers that were counted so
 //!      timed lines COUNT SEED             lines for the listing program
 //!      timed listed FILE                  holds standard input, the listing of FILE, to what the library answers
 //! The exit status is 1 where an answer is wrong.
+#[macro_use]
+mod calls;
 mod checks;
 mod clock;
+mod gauge;
 mod growth;
 mod inputs;
+mod limit;
 mod numerals;
 #[path = "../../compare/feed/numbers.rs"]
 mod numbers;
@@ -21,8 +29,9 @@ mod rng;
 mod theirs;
 
 use checks::Wrong;
-use clock::{measure, Figure, Plan};
-use inputs::{Case, MIXED, MIXTURE, POLAR};
+use clock::{Figure, Pass, Plan};
+use gauge::Gauge;
+use inputs::{Case, BARE, FEW, LONG, MANY, MIXED, MIXTURE, POLAR};
 use points::{Apart, Jobs};
 use report::{Goal, Table};
 use rng::Rng;
@@ -42,108 +51,198 @@ fn right(what: Wrong) {
     }
 }
 
-fn time_read(plan: Plan, case: &Case) -> Figures {
-    let texts: Vec<&str> = case.texts.iter().map(String::as_str).collect();
-    let kept: Vec<theirs::Text> = texts.iter().map(|t| theirs::text(t)).collect();
-    let mut sides = vec![Some(passes::our_read(&texts)), Some(passes::our_read_metres(&texts)), None, None];
-    if case.compared {
-        sides[2] = Some(passes::rust_read(&texts));
-    }
-    if theirs::is_here() {
-        sides[3] = Some(passes::their_read(&kept));
-    }
-    measure(plan, texts.len(), sides)
+/// All that is asked.
+struct Asked {
+    sound: Vec<Case>,
+    refused: Vec<Case>,
+    jobs: Vec<Jobs>,
+    apart: Apart,
 }
 
-fn time_write(plan: Plan, row: &Jobs) -> Figures {
-    let mut sides = vec![Some(passes::our_write(&row.jobs)), None, None, None];
-    if row.jobs.iter().all(|job| job.rust.is_some()) {
-        sides[1] = Some(passes::rust_write(&row.jobs));
+/// The texts drawn, or those that were drawn before, and the points of the sound ones.
+fn ask(seed: u64, many: usize, drawn: Option<&str>) -> Asked {
+    let mut rng = Rng::new(seed);
+    let (mut sound, mut refused) = (inputs::sound_cases(&mut rng, many), inputs::refused_cases(&mut rng, many));
+    if let Some(drawn) = drawn {
+        inputs::fill(sound.iter_mut().chain(&mut refused), drawn);
     }
-    if row.shared {
-        sides[2] = Some(passes::rust_create(&row.jobs));
-    }
-    if row.shared && theirs::is_here() {
-        sides[3] = Some(passes::their_write(&row.jobs));
-    }
-    measure(plan, row.jobs.len(), sides)
+    let mut apart = Apart::default();
+    let mut jobs = points::sound_jobs(&sound, &mut apart);
+    jobs.extend(points::refused_jobs(&mut Rng::new(!seed), &sound[1]));
+    Asked { sound, refused, jobs, apart }
 }
 
-fn read_table(plan: Plan, what: &'static str, cases: &[Case]) -> Rows {
+/// How many answers there are, where none is wrong.
+fn compare(asked: &Asked) -> usize {
+    let texts = || asked.sound.iter().chain(&asked.refused);
+    texts().for_each(|case| right(checks::read(case)));
+    asked.jobs.iter().for_each(|row| right(checks::write(row)));
+    texts().map(|case| case.texts.len()).sum::<usize>() + asked.jobs.iter().map(|row| row.jobs.len()).sum::<usize>()
+}
+
+/// The texts of a row, as all sides but GeographicLib take them, and as it does.
+fn texts_of(case: &Case) -> (Vec<&str>, Vec<theirs::Text>) {
+    (case.texts.iter().map(String::as_str).collect(), case.texts.iter().map(|t| theirs::text(t)).collect())
+}
+
+/// A side that is asked only where it can be.
+fn only(when: bool, pass: Pass) -> Option<Pass> {
+    if when { Some(pass) } else { None }
+}
+
+fn read_row(gauge: &Gauge, case: &Case) -> Figures {
+    let (texts, kept) = texts_of(case);
+    let sides = vec![
+        Some(passes::read(&texts, ours::read)),
+        Some(passes::read(&texts, ours::read_metres)),
+        only(case.compared, passes::rust_read(&texts)),
+        only(theirs::is_here(), passes::their_read(&kept)),
+        Some(passes::read(&texts, limit::read)),
+        Some(passes::read(&texts, limit::read_metres)),
+    ];
+    gauge.measure(texts.len(), sides)
+}
+
+/// The same calls, each of which waits for the answer before it.
+fn waiting_row(gauge: &Gauge, case: &Case) -> Figures {
+    let (texts, kept) = texts_of(case);
+    let sides = vec![
+        Some(passes::waiting_read(&texts, ours::read)),
+        Some(passes::waiting_read(&texts, ours::read_metres)),
+        only(case.compared, passes::waiting_rust_read(&texts)),
+        only(theirs::is_here(), passes::waiting_their_read(&kept)),
+        Some(passes::waiting_read(&texts, limit::read)),
+        Some(passes::waiting_read(&texts, limit::read_metres)),
+    ];
+    gauge.measure(texts.len(), sides)
+}
+
+fn write_row(gauge: &Gauge, row: &Jobs) -> Figures {
+    let sides = vec![
+        Some(passes::write(&row.jobs, ours::write)),
+        only(row.jobs.iter().all(|job| job.rust.is_some()), passes::rust_write(&row.jobs)),
+        only(row.shared, passes::rust_create(&row.jobs)),
+        only(row.shared && theirs::is_here(), passes::their_write(&row.jobs)),
+        Some(passes::write(&row.jobs, limit::write)),
+    ];
+    gauge.measure(row.jobs.len(), sides)
+}
+
+fn read_table<'a>(
+    gauge: &Gauge,
+    what: &'static str,
+    cases: impl Iterator<Item = &'a Case>,
+    row: impl Fn(&Gauge, &Case) -> Figures,
+) -> Rows {
     let table = Table {
         what,
-        sides: vec!["ours", "ours, in metres", "the Rust", "GeographicLib"],
-        ratios: vec![("ours / Rust", 0, 2), ("metres / Rust", 1, 2), ("ours / GeographicLib", 0, 3)],
+        sides: vec!["ours", "ours, in metres", "the Rust", "GeographicLib", "C", "C, in metres"],
+        ratios: vec![
+            ("ours / Rust", 0, 2),
+            ("metres / Rust", 1, 2),
+            ("ours / GeographicLib", 0, 3),
+            ("ours / C", 0, 4),
+            ("metres / C", 1, 5),
+        ],
     };
     table.head();
-    let timed = |case: &Case| {
-        let figures = time_read(plan, case);
+    let told = |case: &Case| {
+        let figures = row(gauge, case);
         table.row(&case.name, &figures);
         (case.name.clone(), figures)
     };
-    cases.iter().map(timed).collect()
+    cases.map(told).collect()
 }
 
-fn write_table(plan: Plan, rows: &[Jobs]) -> Rows {
+fn write_table(gauge: &Gauge, rows: &[Jobs]) -> Rows {
     let table = Table {
         what: "writing",
-        sides: vec!["ours", "the Rust, Display", "the Rust, create (and Display)", "GeographicLib"],
-        ratios: vec![("ours / Display", 0, 1), ("ours / create", 0, 2), ("ours / GeographicLib", 0, 3)],
+        sides: vec!["ours", "the Rust, Display", "the Rust, create (and Display)", "GeographicLib", "C"],
+        ratios: vec![("ours / Display", 0, 1), ("ours / create", 0, 2), ("ours / GeographicLib", 0, 3), ("ours / C", 0, 4)],
     };
     table.head();
-    let timed = |row: &Jobs| {
-        let figures = time_write(plan, row);
+    let told = |row: &Jobs| {
+        let figures = write_row(gauge, row);
         table.row(&row.name, &figures);
         (row.name.clone(), figures)
     };
-    rows.iter().map(timed).collect()
+    rows.iter().map(told).collect()
 }
 
-fn loop_alone(plan: Plan, case: &Case) {
-    let texts: Vec<&str> = case.texts.iter().map(String::as_str).collect();
-    let alone = measure(plan, texts.len(), vec![Some(passes::nothing(&texts))]);
-    println!("- the loop without a call, which every figure has in it: {} ns", numerals::shown(alone[0].as_ref().unwrap().best()));
+fn loop_alone(gauge: &Gauge, case: &Case) {
+    let (texts, _) = texts_of(case);
+    let alone = gauge.measure(texts.len(), vec![Some(passes::nothing(&texts))]);
+    let (alone, unit) = (numerals::shown(alone[0].as_ref().unwrap().best()), gauge.unit());
+    println!("- the loop without a call, which every figure has in it: {alone} {unit}");
 }
 
 /// The goals, by the rows that they are about: reading and writing 5+5, and the mixture of refusals.
 fn goals(sound: &Rows, refused: &Rows, written: &Rows) -> String {
-    let (read, write, mixture) = (&sound[MIXED], &written[MIXED], &refused[MIXTURE]);
-    let (polar, written_polar) = (&sound[POLAR], &written[POLAR]);
+    let read = |what, rows: &'static str, metres: bool, most| {
+        let row = sound.get(rows).unwrap_or_else(|| &refused[rows]);
+        Goal { what, ours: &row[usize::from(metres)], rust: &row[2], most, limit: &row[4 + usize::from(metres)] }
+    };
+    let write = |what, rows: &'static str, most| {
+        let row = &written[rows];
+        Goal { what, ours: &row[0], rust: &row[1], most, limit: &row[4] }
+    };
     let goals = [
-        Goal { what: "reading 5+5", ours: &read[0], rust: &read[2], most: 0.5 },
-        Goal { what: "reading 5+5 in metres", ours: &read[1], rust: &read[2], most: 0.5 },
-        Goal { what: "writing 5+5", ours: &write[0], rust: &write[1], most: 0.5 },
-        Goal { what: "reading 5+5 of UPS", ours: &polar[0], rust: &polar[2], most: 0.5 },
-        Goal { what: "reading 5+5 of UPS in metres", ours: &polar[1], rust: &polar[2], most: 0.5 },
-        Goal { what: "writing 5+5 of UPS", ours: &written_polar[0], rust: &written_polar[1], most: 0.5 },
-        Goal { what: "refusing, 1 to 13 mixed", ours: &mixture[0], rust: &mixture[2], most: 0.25 },
-        Goal { what: "refusing, 1 to 13 mixed, in metres", ours: &mixture[1], rust: &mixture[2], most: 0.25 },
+        read("reading 5+5", MIXED, false, 0.30),
+        read("reading 5+5 in metres", MIXED, true, 0.30),
+        write("writing 5+5", MIXED, 0.25),
+        read("reading 5+5 of UPS", POLAR, false, 0.40),
+        read("reading 5+5 of UPS in metres", POLAR, true, 0.40),
+        write("writing 5+5 of UPS", POLAR, 0.40),
+        read("refusing, 1 to 13 mixed", MIXTURE, false, 0.25),
+        read("refusing, 1 to 13 mixed, in metres", MIXTURE, true, 0.25),
     ];
     let mut said = String::new();
     goals.iter().for_each(|goal| goal.say(&mut said));
     said
 }
 
-fn run(plan: Plan, seed: u64) -> String {
-    let mut rng = Rng::new(seed);
-    let (sound, refused) = (inputs::sound_cases(&mut rng), inputs::refused_cases(&mut rng));
-    let (mixed, texts) = (&sound[1], || sound.iter().chain(&refused));
-    texts().for_each(|case| right(checks::read(case)));
-    let mut apart = Apart::default();
-    let mut jobs = points::sound_jobs(&sound, &mut apart);
-    jobs.extend(points::refused_jobs(&mut rng, mixed));
-    jobs.iter().for_each(|row| right(checks::write(row)));
-    let answers = texts().map(|case| case.texts.len()).sum::<usize>() + jobs.iter().map(|row| row.jobs.len()).sum::<usize>();
-    let (asked, other) = (apart.asked, apart.other_band);
-    println!("- {} answers compared before the clock ran, none differs", numerals::whole(answers as f64));
-    println!("- points not written: {asked} where Display asks its projection, {other} where it writes another band");
-    println!("- {} rounds, each side in turn, about {} ms each time", plan.rounds, plan.slice / 1e6);
-    println!("- nanoseconds per call: the best round (the middle one); a ratio is the middle one of the rounds' ratios");
-    loop_alone(plan, mixed);
-    let (sound, refused) = (read_table(plan, "reading", &sound), read_table(plan, "refusing", &refused));
-    let written = write_table(plan, &jobs);
-    growth::tables(plan);
+/// How the figures were got.
+fn say_how(gauge: &Gauge) {
+    match gauge {
+        Gauge::Clock(plan) => {
+            println!("- {} rounds, each side in turn, about {} ms each time", plan.rounds, plan.slice / 1e6);
+            println!("- nanoseconds per call: the best round (the middle one); a ratio is the middle one of the rounds' ratios");
+        }
+        _ => println!("- instructions per call, each counted once by the emulator, over {FEW} inputs a row; no time was taken"),
+    }
+}
+
+/// The tables. How the cost grows, and what a call costs that waits, only the clock can tell.
+fn run(gauge: &Gauge, asked: &Asked) -> String {
+    say_how(gauge);
+    loop_alone(gauge, &asked.sound[1]);
+    let sound = read_table(gauge, "reading", asked.sound.iter(), read_row);
+    let refused = read_table(gauge, "refusing", asked.refused.iter(), read_row);
+    if let Gauge::Clock(plan) = gauge {
+        let alone = asked.sound.iter().filter(|case| [MIXED, POLAR, LONG, BARE].contains(&case.name.as_str()));
+        read_table(gauge, "reading, each call after the answer before it", alone, waiting_row);
+        growth::tables(*plan);
+    }
+    let written = write_table(gauge, &asked.jobs);
     goals(&sound, &refused, &written)
+}
+
+fn run_whole(gauge: &Gauge, seed: u64, verdict: &str) {
+    if theirs::is_here() {
+        println!("- GeographicLib {}", theirs::version());
+    }
+    let all = ask(seed, MANY, None);
+    println!("- {} answers compared before, none differs", numerals::whole(compare(&all) as f64));
+    let (asked, other) = (all.apart.asked, all.apart.other_band);
+    println!("- points not written: {asked} where Display asks its projection, {other} where it writes another band");
+    let said = if let Gauge::Clock(_) = gauge { run(gauge, &all) } else { run(gauge, &ask(seed, FEW, None)) };
+    std::fs::write(verdict, said).expect("the verdict can be written");
+}
+
+fn put_drawn(seed: u64) {
+    let asked = ask(seed, FEW, None);
+    compare(&asked);
+    asked.sound.iter().chain(&asked.refused).flat_map(|case| &case.texts).for_each(|text| println!("{text}"));
 }
 
 fn put_lines(count: u64, seed: u64) {
@@ -165,19 +264,22 @@ fn hold_listing(file: &str) {
     right(checks::listing(&texts, &listed));
 }
 
+fn content(file: &str) -> String {
+    std::fs::read_to_string(file).expect("the file can be read")
+}
+
 fn main() {
     let words: Vec<String> = std::env::args().collect();
     let number = |k: usize| words.get(k).and_then(|w| w.parse().ok()).expect("a number");
-    let plan = match words[1].as_str() {
-        "short" => Plan { rounds: 41, slice: 5e5 },
-        "full" => Plan { rounds: 201, slice: 1e6 },
-        "lines" => return put_lines(number(2), number(3)),
-        "listed" => return hold_listing(&words[2]),
+    limit::start();
+    match words[1].as_str() {
+        "short" => run_whole(&Gauge::Clock(Plan { rounds: 41, slice: 5e5 }), number(2), &words[3]),
+        "full" => run_whole(&Gauge::Clock(Plan { rounds: 201, slice: 1e6 }), number(2), &words[3]),
+        "drawn" => put_drawn(number(2)),
+        "mark" => drop(run(&Gauge::Mark, &ask(number(2), 0, Some(&content(&words[3]))))),
+        "counted" => run_whole(&Gauge::counted(&content(&words[3])), number(2), &words[4]),
+        "lines" => put_lines(number(2), number(3)),
+        "listed" => hold_listing(&words[2]),
         _ => std::process::exit(2),
-    };
-    if theirs::is_here() {
-        println!("- GeographicLib {}", theirs::version());
     }
-    let said = run(plan, number(2));
-    std::fs::write(&words[3], said).expect("the verdict can be written");
 }

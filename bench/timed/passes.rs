@@ -1,6 +1,6 @@
 //! One way over the inputs, for each side: what stands between two readings of the clock.
+use crate::calls::Point;
 use crate::clock::{hidden, seen, Pass};
-use crate::ours;
 use crate::points::Job;
 use crate::theirs;
 use geoconvert::Mgrs;
@@ -15,24 +15,31 @@ pub fn nothing<'a>(texts: &'a [&'a str]) -> Pass<'a> {
     })
 }
 
-pub fn our_read<'a>(texts: &'a [&'a str]) -> Pass<'a> {
-    let mut position = [0; 6];
-    Box::new(move || {
-        for text in texts {
-            let answer = ours::read(hidden(*text).as_bytes(), &mut position);
-            seen(&answer);
-            seen(&position);
-        }
-    })
+/// What a reading fills: the units of a position, or metres. Its last number is what a later call can wait for.
+pub trait Filled: Default {
+    fn last(&self) -> usize;
 }
 
-pub fn our_read_metres<'a>(texts: &'a [&'a str]) -> Pass<'a> {
-    let mut metres = [0.0; 2];
+impl Filled for [i64; 6] {
+    fn last(&self) -> usize {
+        self[5] as usize
+    }
+}
+
+impl Filled for [f64; 2] {
+    fn last(&self) -> usize {
+        self[1].to_bits() as usize
+    }
+}
+
+/// Reading by our calls or by those of the limit, which are of one form.
+pub fn read<'a, T: Filled + 'a>(texts: &'a [&'a str], call: impl Fn(&[u8], &mut T) -> i64 + 'a) -> Pass<'a> {
+    let mut filled = T::default();
     Box::new(move || {
         for text in texts {
-            let answer = ours::read_metres(hidden(*text).as_bytes(), &mut metres);
+            let answer = call(hidden(*text).as_bytes(), &mut filled);
             seen(&answer);
-            seen(&metres);
+            seen(&filled);
         }
     })
 }
@@ -58,14 +65,48 @@ pub fn their_read<'a>(texts: &'a [theirs::Text]) -> Pass<'a> {
     })
 }
 
-/// What each side is handed is laid out beforehand, one behind the other.
-pub fn our_write<'a>(jobs: &[Job]) -> Pass<'a> {
-    let points: Vec<(ours::Point, usize)> = jobs.iter().map(|job| (job.ours, job.room)).collect();
+/// The inputs one after another, each found only when the answer before it is there: its number, cut by a mask that is 0, is added to
+/// the place of the next. The compiler does not know the mask.
+fn waiting<'a, T: Copy + 'a>(inputs: &'a [T], mut call: impl FnMut(T) -> usize + 'a) -> Pass<'a> {
+    Box::new(move || {
+        let (mask, mut last) = (hidden(0), 0);
+        for k in 0..inputs.len() {
+            last = call(inputs[k + (last & mask)]);
+        }
+        seen(&last);
+    })
+}
+
+pub fn waiting_read<'a, T: Filled + 'a>(texts: &'a [&'a str], call: impl Fn(&[u8], &mut T) -> i64 + 'a) -> Pass<'a> {
+    let mut filled = T::default();
+    waiting(texts, move |text| {
+        let answer = call(text.as_bytes(), &mut filled);
+        seen(&filled);
+        answer as usize + filled.last()
+    })
+}
+
+pub fn waiting_rust_read<'a>(texts: &'a [&'a str]) -> Pass<'a> {
+    waiting(texts, |text| Mgrs::parse_str(text).map_or(0, |m| m.northing().to_bits() as usize))
+}
+
+pub fn waiting_their_read<'a>(texts: &'a [theirs::Text]) -> Pass<'a> {
+    let mut metres = [0.0; 2];
+    waiting(texts, move |text| {
+        let answer = theirs::read(text, &mut metres);
+        seen(&metres);
+        answer as usize + metres.last()
+    })
+}
+
+/// Writing by our call or by the limit's. What each side is handed is laid out beforehand, one behind the other.
+pub fn write<'a>(jobs: &[Job], call: impl Fn(&Point, &mut [u8]) -> i64 + 'a) -> Pass<'a> {
+    let points: Vec<(Point, usize)> = jobs.iter().map(|job| (job.ours, job.room)).collect();
     let mut out = [0; 27];
     Box::new(move || {
         for point in &points {
             let (at, room) = hidden(point);
-            let length = ours::write(at, &mut out[..*room]);
+            let length = call(at, &mut out[..*room]);
             seen(&length);
             seen(&out);
         }

@@ -1,5 +1,6 @@
 //! Points to write: those of the sound texts, and points that are refused.
-use crate::inputs::{Case, MANY};
+use crate::calls::Point;
+use crate::inputs::Case;
 use crate::ours;
 use crate::quiet::quietly;
 use crate::rng::Rng;
@@ -11,7 +12,7 @@ const TILE: i64 = 200_000_000_000;
 
 /// One point for every side, and the text that each has to write; `room` is what our writer is lent.
 pub struct Job {
-    pub ours: ours::Point,
+    pub ours: Point,
     pub theirs: theirs::Point,
     pub rust: Option<Mgrs>,
     pub room: usize,
@@ -32,7 +33,7 @@ pub struct Apart {
     pub other_band: usize,
 }
 
-fn job(at: ours::Point, rust: Option<Mgrs>, answer: Result<String, u32>) -> Job {
+fn job(at: Point, rust: Option<Mgrs>, answer: Result<String, u32>) -> Job {
     let (easting, northing) = (at.easting as f64 / 2_000_000.0, at.northing as f64 / 2_000_000.0);
     let (zone, latitude, p) = (at.zone as i32, theirs::latitude_amid(at.band), at.p as i32);
     let theirs = theirs::Point { zone, north: at.north, easting, northing, latitude, p };
@@ -74,7 +75,7 @@ pub fn sound_jobs(cases: &[Case], apart: &mut Apart) -> Vec<Jobs> {
 }
 
 /// A sound point, altered so that it is refused by this number.
-fn refused(rng: &mut Rng, sound: ours::Point, number: u32) -> Job {
+fn refused(rng: &mut Rng, sound: Point, number: u32) -> Job {
     let mut at = sound;
     let beyond = rng.from_to(1, 40 * TILE);
     match number {
@@ -96,14 +97,14 @@ pub fn refused_jobs(rng: &mut Rng, sound: &Case) -> Vec<Jobs> {
     const WHY: [&str; 7] = [
         "the zone", "p", "the easting", "the northing", "no band letter", "the band does not fit", "too little room",
     ];
-    let points: Vec<ours::Point> = sound.texts.iter().map(|t| ours::point(t)).collect();
+    let points: Vec<Point> = sound.texts.iter().map(|t| ours::point(t)).collect();
     let mut rows = Vec::new();
     for number in 14..=20 {
         let jobs = points.iter().map(|at| refused(rng, *at, number)).collect();
         let name = format!("refused {number}: {}", WHY[number as usize - 14]);
         rows.push(Jobs { name, jobs, shared: [14, 16, 17].contains(&number) });
     }
-    let jobs = (0..MANY).map(|k| refused(rng, points[k], [14, 16, 17][k % 3])).collect();
+    let jobs = (0..points.len()).map(|k| refused(rng, points[k], [14, 16, 17][k % 3])).collect();
     rows.push(Jobs { name: "refused, 14, 16 and 17 mixed".to_string(), jobs, shared: true });
     rows
 }

@@ -1,4 +1,5 @@
-//! Tables for people, in Markdown: nanoseconds per call as the best round with the middle one behind it, and ratios.
+//! Tables for people, in Markdown: nanoseconds per call as the best round with the middle one behind it, or counted instructions, and
+//! ratios.
 use crate::clock::Figure;
 use crate::numerals::shown;
 use std::fmt::Write;
@@ -11,7 +12,11 @@ pub struct Table {
 }
 
 fn cell(figure: &Option<Figure>) -> String {
-    figure.as_ref().map_or("-".to_string(), |f| format!("{} ({})", shown(f.best()), shown(f.median())))
+    match figure {
+        None => "-".to_string(),
+        Some(f) if f.is_one() => shown(f.best()),
+        Some(f) => format!("{} ({})", shown(f.best()), shown(f.median())),
+    }
 }
 
 fn ratio(of: &Option<Figure>, to: &Option<Figure>) -> String {
@@ -39,22 +44,31 @@ impl Table {
     }
 }
 
-/// A goal: what is asked, ours, the Rust's, and the ratio to reach.
+/// What is asked of a row: ours, the Rust's, the ratio to reach, and plain C's, which is the limit and no goal.
 pub struct Goal<'a> {
     pub what: &'static str,
     pub ours: &'a Option<Figure>,
     pub rust: &'a Option<Figure>,
     pub most: f64,
+    pub limit: &'a Option<Figure>,
 }
 
 impl Goal<'_> {
-    /// A line that says how it stands. The greater ratio counts: of the rounds' middle one and that of the best rounds.
+    /// A line that says how it stands. The greater ratio counts: of the rounds' middle one and that of the best rounds. A goal is one
+    /// of time: what was counted is told and not judged.
     pub fn say(&self, out: &mut String) {
         let (ours, rust) = (self.ours.as_ref().expect("ours was asked"), self.rust.as_ref().expect("the Rust was asked"));
+        let limit = ours.ratio(self.limit.as_ref().expect("C was asked"));
         let (ratio, bests) = (ours.ratio(rust), ours.best() / rust.best());
-        let end = if ratio.max(bests) <= self.most { "reached" } else { "MISSED" };
-        let (what, most, ours, rust) = (self.what, self.most, shown(ours.best()), shown(rust.best()));
-        write!(out, "- {what}: {ours} ns to the Rust's {rust}, ratio {ratio:.2} ").expect("a string has room");
-        writeln!(out, "({bests:.2} of the best rounds), goal {most:.2}: {end}").expect("a string has room");
+        let (what, most, counted) = (self.what, self.most, ours.is_one());
+        let end = if ratio.max(bests) <= most { "reached" } else { "MISSED" };
+        let (ours, rust) = (shown(ours.best()), shown(rust.best()));
+        let said = if counted {
+            writeln!(out, "- {what}: {ours} instructions to the Rust's {rust}, ratio {ratio:.2}; {limit:.2} times plain C's")
+        } else {
+            let ratios = format!("ratio {ratio:.2} ({bests:.2} of the best rounds); {limit:.2} times plain C's");
+            writeln!(out, "- {what}: {ours} ns to the Rust's {rust}, {ratios}; goal {most:.2}: {end}")
+        };
+        said.expect("a string has room");
     }
 }
