@@ -41,9 +41,9 @@ fn row(plan: Plan, name: &str, n: usize, text: &str) {
     let texts = vec![text; many];
     let kept = vec![theirs::text(text); many];
     let (here, there) = (our_answer(text), rust_answer(text));
-    let rust = if there == "panics" { None } else { Some(passes::rust_read(&texts)) };
-    let other = if theirs::is_here() { Some(passes::their_read(&kept)) } else { None };
-    let figures = measure(plan, many, vec![Some(passes::read(&texts, ours::read)), rust, other]);
+    let rust = if there == "panics" { None } else { Some(passes::rust_read(&texts, false)) };
+    let other = if theirs::is_here() { Some(passes::their_read(&kept, false)) } else { None };
+    let figures = measure(plan, many, vec![Some(passes::read(&texts, false, ours::read)), rust, other]);
     let all: Vec<String> = figures.iter().map(|f| cells(f, text.len())).collect();
     println!("| {name} | {} | {here} | {there} | {} |", whole(n as f64), all.join(" | "));
 }

@@ -90,29 +90,16 @@ fn only(when: bool, pass: Pass) -> Option<Pass> {
     if when { Some(pass) } else { None }
 }
 
-fn read_row(gauge: &Gauge, case: &Case) -> Figures {
+/// The figures of reading, where each call waits for the answer before it or where it does not.
+fn read_row(gauge: &Gauge, case: &Case, waits: bool) -> Figures {
     let (texts, kept) = texts_of(case);
     let sides = vec![
-        Some(passes::read(&texts, ours::read)),
-        Some(passes::read(&texts, ours::read_metres)),
-        only(case.compared, passes::rust_read(&texts)),
-        only(theirs::is_here(), passes::their_read(&kept)),
-        Some(passes::read(&texts, limit::read)),
-        Some(passes::read(&texts, limit::read_metres)),
-    ];
-    gauge.measure(texts.len(), sides)
-}
-
-/// The same calls, each of which waits for the answer before it.
-fn waiting_row(gauge: &Gauge, case: &Case) -> Figures {
-    let (texts, kept) = texts_of(case);
-    let sides = vec![
-        Some(passes::waiting_read(&texts, ours::read)),
-        Some(passes::waiting_read(&texts, ours::read_metres)),
-        only(case.compared, passes::waiting_rust_read(&texts)),
-        only(theirs::is_here(), passes::waiting_their_read(&kept)),
-        Some(passes::waiting_read(&texts, limit::read)),
-        Some(passes::waiting_read(&texts, limit::read_metres)),
+        Some(passes::read(&texts, waits, ours::read)),
+        Some(passes::read(&texts, waits, ours::read_metres)),
+        only(case.compared, passes::rust_read(&texts, waits)),
+        only(theirs::is_here(), passes::their_read(&kept, waits)),
+        Some(passes::read(&texts, waits, limit::read)),
+        Some(passes::read(&texts, waits, limit::read_metres)),
     ];
     gauge.measure(texts.len(), sides)
 }
@@ -128,12 +115,7 @@ fn write_row(gauge: &Gauge, row: &Jobs) -> Figures {
     gauge.measure(row.jobs.len(), sides)
 }
 
-fn read_table<'a>(
-    gauge: &Gauge,
-    what: &'static str,
-    cases: impl Iterator<Item = &'a Case>,
-    row: impl Fn(&Gauge, &Case) -> Figures,
-) -> Rows {
+fn read_table<'a>(gauge: &Gauge, what: &'static str, cases: impl Iterator<Item = &'a Case>, waits: bool) -> Rows {
     let table = Table {
         what,
         sides: vec!["ours", "ours, in metres", "the Rust", "GeographicLib", "C", "C, in metres"],
@@ -147,7 +129,7 @@ fn read_table<'a>(
     };
     table.head();
     let told = |case: &Case| {
-        let figures = row(gauge, case);
+        let figures = read_row(gauge, case, waits);
         table.row(&case.name, &figures);
         (case.name.clone(), figures)
     };
@@ -176,29 +158,33 @@ fn loop_alone(gauge: &Gauge, case: &Case) {
     println!("- the loop without a call, which every figure has in it: {alone} {unit}");
 }
 
-/// The goals, by the rows that they are about: reading and writing 5+5, and the mixture of refusals.
-fn goals(sound: &Rows, refused: &Rows, written: &Rows) -> String {
-    let read = |what, rows: &'static str, metres: bool, most| {
-        let row = sound.get(rows).unwrap_or_else(|| &refused[rows]);
-        Goal { what, ours: &row[usize::from(metres)], rust: &row[2], most, limit: &row[4 + usize::from(metres)] }
-    };
-    let write = |what, rows: &'static str, most| {
-        let row = &written[rows];
-        Goal { what, ours: &row[0], rust: &row[1], most, limit: &row[4] }
-    };
-    let goals = [
-        read("reading 5+5", MIXED, false, 0.30),
-        read("reading 5+5 in metres", MIXED, true, 0.30),
-        write("writing 5+5", MIXED, 0.25),
-        read("reading 5+5 of UPS", POLAR, false, 0.40),
-        read("reading 5+5 of UPS in metres", POLAR, true, 0.40),
-        write("writing 5+5 of UPS", POLAR, 0.40),
-        read("refusing, 1 to 13 mixed", MIXTURE, false, 0.25),
-        read("refusing, 1 to 13 mixed, in metres", MIXTURE, true, 0.25),
+/// A row of a reading table in the verdict, if it is there.
+fn reading<'a>(what: &'static str, rows: &'a Rows, name: &str, metres: bool, most: Option<f64>) -> Option<Goal<'a>> {
+    let (row, k) = (rows.get(name)?, usize::from(metres));
+    Some(Goal { what, ours: &row[k], rust: &row[2], limit: &row[4 + k], most })
+}
+
+fn writing<'a>(what: &'static str, rows: &'a Rows, name: &str, most: f64) -> Option<Goal<'a>> {
+    let row = rows.get(name)?;
+    Some(Goal { what, ours: &row[0], rust: &row[1], limit: &row[4], most: Some(most) })
+}
+
+/// The verdict: the goals, by the rows that they are about, and three rows that have none. Only the clock has those that wait.
+fn verdict(unit: &str, sound: &Rows, refused: &Rows, waiting: &Rows, written: &Rows) -> String {
+    let lines = [
+        reading("reading 5+5", sound, MIXED, false, Some(0.30)),
+        reading("reading 5+5 in metres", sound, MIXED, true, Some(0.30)),
+        writing("writing 5+5", written, MIXED, 0.25),
+        reading("reading 5+5 of UPS", sound, POLAR, false, Some(0.40)),
+        reading("reading 5+5 of UPS in metres", sound, POLAR, true, Some(0.40)),
+        writing("writing 5+5 of UPS", written, POLAR, 0.40),
+        reading("refusing, 1 to 13 mixed", refused, MIXTURE, false, Some(0.25)),
+        reading("refusing, 1 to 13 mixed, in metres", refused, MIXTURE, true, Some(0.25)),
+        reading("reading 11+11", sound, LONG, false, None),
+        reading("reading a bare zone in metres", sound, BARE, true, None),
+        reading("reading 5+5, each call after the answer before it", waiting, MIXED, false, None),
     ];
-    let mut said = String::new();
-    goals.iter().for_each(|goal| goal.say(&mut said));
-    said
+    lines.iter().flatten().map(|goal| goal.line(unit)).collect()
 }
 
 /// How the figures were got.
@@ -216,15 +202,16 @@ fn say_how(gauge: &Gauge) {
 fn run(gauge: &Gauge, asked: &Asked) -> String {
     say_how(gauge);
     loop_alone(gauge, &asked.sound[1]);
-    let sound = read_table(gauge, "reading", asked.sound.iter(), read_row);
-    let refused = read_table(gauge, "refusing", asked.refused.iter(), read_row);
+    let sound = read_table(gauge, "reading", asked.sound.iter(), false);
+    let refused = read_table(gauge, "refusing", asked.refused.iter(), false);
+    let written = write_table(gauge, &asked.jobs);
+    let mut waiting = Rows::new();
     if let Gauge::Clock(plan) = gauge {
-        let alone = asked.sound.iter().filter(|case| [MIXED, POLAR, LONG, BARE].contains(&case.name.as_str()));
-        read_table(gauge, "reading, each call after the answer before it", alone, waiting_row);
+        let cases = asked.sound.iter().filter(|case| [MIXED, POLAR, LONG, BARE].contains(&case.name.as_str()));
+        waiting = read_table(gauge, "reading, each call after the answer before it", cases, true);
         growth::tables(*plan);
     }
-    let written = write_table(gauge, &asked.jobs);
-    goals(&sound, &refused, &written)
+    verdict(gauge.unit(), &sound, &refused, &waiting, &written)
 }
 
 fn run_whole(gauge: &Gauge, seed: u64, verdict: &str) {

@@ -32,42 +32,16 @@ impl Filled for [f64; 2] {
     }
 }
 
-/// Reading by our calls or by those of the limit, which are of one form.
-pub fn read<'a, T: Filled + 'a>(texts: &'a [&'a str], call: impl Fn(&[u8], &mut T) -> i64 + 'a) -> Pass<'a> {
-    let mut filled = T::default();
-    Box::new(move || {
-        for text in texts {
-            let answer = call(hidden(*text).as_bytes(), &mut filled);
-            seen(&answer);
-            seen(&filled);
-        }
-    })
-}
-
-/// A refusal's message is freed again: its caller cannot do without.
-pub fn rust_read<'a>(texts: &'a [&'a str]) -> Pass<'a> {
-    Box::new(move || {
-        for text in texts {
-            let answer = Mgrs::parse_str(hidden(*text));
-            seen(&answer);
-        }
-    })
-}
-
-pub fn their_read<'a>(texts: &'a [theirs::Text]) -> Pass<'a> {
-    let mut metres = [0.0; 2];
-    Box::new(move || {
-        for text in texts {
-            let answer = theirs::read(hidden(*text), &mut metres);
-            seen(&answer);
-            seen(&metres);
-        }
-    })
-}
-
-/// The inputs one after another, each found only when the answer before it is there: its number, cut by a mask that is 0, is added to
-/// the place of the next. The compiler does not know the mask.
-fn waiting<'a, T: Copy + 'a>(inputs: &'a [T], mut call: impl FnMut(T) -> usize + 'a) -> Pass<'a> {
+/// The inputs one after another. Where each call waits, its input is found only when the answer before it is there: the answer's
+/// number, cut by a mask that is 0, is added to the place of the next input. The compiler does not know the mask.
+fn walk<'a, T: Copy + 'a>(inputs: &'a [T], waits: bool, mut call: impl FnMut(T) -> usize + 'a) -> Pass<'a> {
+    if !waits {
+        return Box::new(move || {
+            for input in inputs {
+                call(hidden(*input));
+            }
+        });
+    }
     Box::new(move || {
         let (mask, mut last) = (hidden(0), 0);
         for k in 0..inputs.len() {
@@ -77,23 +51,31 @@ fn waiting<'a, T: Copy + 'a>(inputs: &'a [T], mut call: impl FnMut(T) -> usize +
     })
 }
 
-pub fn waiting_read<'a, T: Filled + 'a>(texts: &'a [&'a str], call: impl Fn(&[u8], &mut T) -> i64 + 'a) -> Pass<'a> {
+/// Reading by our calls or by those of the limit, which are of one form.
+pub fn read<'a, T: Filled + 'a>(texts: &'a [&'a str], waits: bool, call: impl Fn(&[u8], &mut T) -> i64 + 'a) -> Pass<'a> {
     let mut filled = T::default();
-    waiting(texts, move |text| {
+    walk(texts, waits, move |text| {
         let answer = call(text.as_bytes(), &mut filled);
+        seen(&answer);
         seen(&filled);
         answer as usize + filled.last()
     })
 }
 
-pub fn waiting_rust_read<'a>(texts: &'a [&'a str]) -> Pass<'a> {
-    waiting(texts, |text| Mgrs::parse_str(text).map_or(0, |m| m.northing().to_bits() as usize))
+/// A refusal's message is freed again: its caller cannot do without.
+pub fn rust_read<'a>(texts: &'a [&'a str], waits: bool) -> Pass<'a> {
+    walk(texts, waits, |text| {
+        let answer = Mgrs::parse_str(text);
+        seen(&answer);
+        answer.as_ref().map_or(0, |m| m.northing().to_bits() as usize)
+    })
 }
 
-pub fn waiting_their_read<'a>(texts: &'a [theirs::Text]) -> Pass<'a> {
+pub fn their_read<'a>(texts: &'a [theirs::Text], waits: bool) -> Pass<'a> {
     let mut metres = [0.0; 2];
-    waiting(texts, move |text| {
+    walk(texts, waits, move |text| {
         let answer = theirs::read(text, &mut metres);
+        seen(&answer);
         seen(&metres);
         answer as usize + metres.last()
     })

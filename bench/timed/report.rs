@@ -2,7 +2,6 @@
 //! ratios.
 use crate::clock::Figure;
 use crate::numerals::shown;
-use std::fmt::Write;
 
 /// The titles of the sides, and of the ratios as (title, of which side, to which).
 pub struct Table {
@@ -44,31 +43,31 @@ impl Table {
     }
 }
 
-/// What is asked of a row: ours, the Rust's, the ratio to reach, and plain C's, which is the limit and no goal.
+/// What the verdict says of a row: ours, the Rust's and plain C's, which is the limit; and the ratio to the Rust that is the goal, if any.
 pub struct Goal<'a> {
     pub what: &'static str,
     pub ours: &'a Option<Figure>,
     pub rust: &'a Option<Figure>,
-    pub most: f64,
     pub limit: &'a Option<Figure>,
+    pub most: Option<f64>,
 }
 
 impl Goal<'_> {
     /// A line that says how it stands. The greater ratio counts: of the rounds' middle one and that of the best rounds. A goal is one
     /// of time: what was counted is told and not judged.
-    pub fn say(&self, out: &mut String) {
-        let (ours, rust) = (self.ours.as_ref().expect("ours was asked"), self.rust.as_ref().expect("the Rust was asked"));
-        let limit = ours.ratio(self.limit.as_ref().expect("C was asked"));
-        let (ratio, bests) = (ours.ratio(rust), ours.best() / rust.best());
-        let (what, most, counted) = (self.what, self.most, ours.is_one());
-        let end = if ratio.max(bests) <= most { "reached" } else { "MISSED" };
-        let (ours, rust) = (shown(ours.best()), shown(rust.best()));
-        let said = if counted {
-            writeln!(out, "- {what}: {ours} instructions to the Rust's {rust}, ratio {ratio:.2}; {limit:.2} times plain C's")
-        } else {
-            let ratios = format!("ratio {ratio:.2} ({bests:.2} of the best rounds); {limit:.2} times plain C's");
-            writeln!(out, "- {what}: {ours} ns to the Rust's {rust}, {ratios}; goal {most:.2}: {end}")
-        };
-        said.expect("a string has room");
+    pub fn line(&self, unit: &str) -> String {
+        let (ours, limit) = (self.ours.as_ref().expect("ours was asked"), self.limit.as_ref().expect("C was asked"));
+        let mut line = format!("- {}: {} {unit}", self.what, shown(ours.best()));
+        let mut end = String::new();
+        if let Some(rust) = self.rust {
+            let (ratio, bests) = (ours.ratio(rust), ours.best() / rust.best());
+            line += &format!(" to the Rust's {}, ratio {ratio:.2}", shown(rust.best()));
+            if !ours.is_one() {
+                line += &format!(" ({bests:.2} of the best rounds)");
+                let judged = |most| format!("; goal {most:.2}: {}", if ratio.max(bests) <= most { "reached" } else { "MISSED" });
+                end = self.most.map_or(end, judged);
+            }
+        }
+        line + &format!("; {:.2} times plain C's{end}\n", ours.ratio(limit))
     }
 }
