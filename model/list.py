@@ -1,16 +1,13 @@
 #!/usr/bin/env python3
 """Document 01's reader and listing once more, plainly, in exact whole numbers.
 
-    model/list.py          writes crates/list/stdin, and the stdout of list, in_metres and in_buffers, to which the gate holds
-                           the three programs
+    model/list.py          writes crates/list/stdin and stdout, to which the gate holds the program list
     model/list.py FILE     writes the listing of FILE to standard output
 
 It shares nothing with the crates. The letters and the rows are those of model/ground.py.
 """
 import os
-import re
 import sys
-from fractions import Fraction
 
 from ground import BANDS, COLUMNS, ROWS, TILE, UPS_COLUMNS, UPS_ROWS, resolve
 
@@ -137,33 +134,6 @@ def gate():
     return data + b"z" * 70000 + b"\n18T\n" + b"18TWL" + b"1" * 60
 
 
-def metres():
-    """What in_metres prints: each of its texts read, and whether its metres are those that it stands beside."""
-    source = open("crates/in_metres/src/main.rt").read()
-    out = []
-    for text, *beside in re.findall(r'shown\(\s*b"(.*?)",\s*([\d_.]+),\s*([\d_.]+),?\s*\);', source):
-        answer = read(text.encode())
-        if isinstance(answer, int):
-            out.append(f"{text} R {answer}\n")
-            continue
-        exact = [float(Fraction(u, METRE)) for u in answer[4:]]
-        same = exact == [float(b) for b in beside]
-        out.append(f"{text} {'bare' if answer[3] < 0 else 'square'} {'equal' if same else 'other metres'}\n")
-    return "".join(out)
-
-
-def buffers():
-    """What in_buffers prints: each line in a buffer of dots, or the buffer as it was."""
-    source = open("crates/in_buffers/src/main.rt").read()
-    out = []
-    for size, text, number in re.findall(r"= \[b'.'; (\d+)\];\s*shown\(\s*b\"(.*?)\",\s*([\d_]+),", source):
-        put, size = line(int(number), text.encode()), int(size)
-        fits = len(put) <= size
-        said = f"length {len(put)} [{put}{'.' * (size - len(put))}]" if fits else f"R 20 [{'.' * size}]"
-        out.append(f"{text} {said}\n")
-    return "".join(out)
-
-
 def main():
     if len(sys.argv) > 1:
         sys.stdout.buffer.write(listing(open(sys.argv[1], "rb").read()))
@@ -172,8 +142,6 @@ def main():
     folder = os.path.join("crates", "list")
     open(os.path.join(folder, "stdin"), "wb").write(data)
     open(os.path.join(folder, "stdout"), "wb").write(listing(data))
-    open(os.path.join("crates", "in_metres", "stdout"), "w").write(metres())
-    open(os.path.join("crates", "in_buffers", "stdout"), "w").write(buffers())
     print(len(data), "bytes,", len(listing(data).splitlines()), "lines")
 
 

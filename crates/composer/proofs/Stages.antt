@@ -13,17 +13,17 @@ use Rattle.whole.proofs.Parts.{clash}
 use Rattle.whole.proofs.Ranges.{not-outside}
 use Rattle.letters.specs.declared.Place.the-variants.{At}
 use Rattle.letters.specs.Letters.{placeOf}
-use Rattle.letters.specs.Sets.{bandsOf}
+use Rattle.bands.specs.Bands.{bandsOf}
 use Rattle.letters.proofs.Places.{in-set}
 use Rattle.position.specs.declared.Parts.{Parts}
-use Rattle.position.specs.declared.Point.{Point}
-use Rattle.position.specs.declared.MgrsCheck.{MgrsCheck}
-use Rattle.position.specs.declared.MgrsCheck.the-variants.{Moved, Refused as OutOfRange}
-use Rattle.position.specs.Edges.{mgrsCheck}
+use Rattle.ranges.specs.declared.Point.{Point}
+use Rattle.ranges.specs.declared.MgrsCheck.{MgrsCheck}
+use Rattle.ranges.specs.declared.MgrsCheck.the-variants.{Moved, Refused as OutOfRange}
+use Rattle.ranges.specs.Edges.{mgrsCheck}
 use Rattle.composer.specs.declared.BareZone.{BareZone}
 use Rattle.composer.specs.declared.Composed.{Composed}
 use Rattle.composer.specs.declared.Composed.the-variants.{Full, Bare, Refused}
-use Rattle.position.specs.Ranges.{tileAt}
+use Rattle.position.specs.Units.{tileAt}
 use Rattle.composer.specs.Compose.{fits, partsAt, madeOf, composedAt, reached, composed}
 
 -- the outcome of the edge rules, where a refusal is not the answer
@@ -40,7 +40,7 @@ pub record Checked (zone : ℤ) (north : Bool) (band : ℕ) (p e n : ℤ) : Type
   pub is-point : mgrsCheck zone north e n ≡ Moved point
   pub k : ℕ
   pub is-band : placeOf (bandsOf zone) band ≡ At k
-  pub fit : fits zone band k (point .north) (tileAt (fold (point .easting))) (tileAt (fold (point .northing))) ≡ true
+  pub fit : fits zone band (point .north) (tileAt (fold (point .easting))) (tileAt (fold (point .northing))) ≡ true
 
 -- what is made of a point that passed them
 abbrev pub madeAt : {zone : ℤ} {north : Bool} {band : ℕ} {p e n : ℤ} → Checked zone north band p e n → Composed
@@ -67,8 +67,8 @@ module _ (y : Composed) (taken : (n : ℕ) → Refused n ≡ y → ⊥) where
       let u = fold (c .point .easting) in
       let v = fold (c .point .northing) in
       let made = madeOf zone band (c .point .north) p u v in
-      let d = in-set (placeOf (bandsOf zone) band) (Refused 18) (λ k. cond (not (fits zone band k (c .point .north) (tileAt u) (tileAt v))) (Refused 19) made) y (taken 18) (c .then) in
-      let f = past (not (fits zone band (d .k) (c .point .north) (tileAt u) (tileAt v))) _ _ _ (taken 19) (d .then) in
+      let d = in-set (placeOf (bandsOf zone) band) (Refused 18) (λ k. cond (not (fits zone band (c .point .north) (tileAt u) (tileAt v))) (Refused 19) made) y (taken 18) (c .then) in
+      let f = past (not (fits zone band (c .point .north) (tileAt u) (tileAt v))) _ _ _ (taken 19) (d .then) in
       record {
         checked = record { zone-in = a .0; p-in = b .0; point = c .point; is-point = c .is; k = d .k; is-band = d .is; fit = not-false _ (f .0) };
         then = f .1;

@@ -6,31 +6,33 @@ use lib.IntN.{ℤ, pos, negsuc, _-ℤ_}
 use lib.Signed.{ltZ}
 use Rattle.whole.specs.Compare.{outside}
 use Rattle.whole.specs.Floor.{fold}
-use Rattle.letters.specs.Letters.{LetterSet, placeOf, byPlace, letterAt, firstTile}
-use Rattle.letters.specs.Sets.{bandsOf, columnsOf, rowsOf, northBand, eastBand}
+use Rattle.letters.specs.Letters.{LetterSet, placeOf, byPlace, letterAt, firstTile, northBand, eastBand}
+use Rattle.bands.specs.Bands.{bandsOf, bandNumber}
+use Rattle.columns.specs.Columns.{columnsOf}
+use Rattle.row_letters.specs.RowLetters.{rowsOf}
 use Rattle.rows.specs.Allowed.{allowed}
 use Rattle.rows.specs.Letters.{shiftOf, letterOf}
 use Rattle.position.specs.declared.Parts.{Parts}
-use Rattle.position.specs.declared.Point.{Point}
-use Rattle.position.specs.declared.MgrsCheck.{MgrsCheck}
-use Rattle.position.specs.declared.MgrsCheck.the-variants.{Moved, Refused as OutOfRange}
-use Rattle.position.specs.Ranges.{tileAt}
-use Rattle.position.specs.Edges.{mgrsCheck}
+use Rattle.ranges.specs.declared.Point.{Point}
+use Rattle.ranges.specs.declared.MgrsCheck.{MgrsCheck}
+use Rattle.ranges.specs.declared.MgrsCheck.the-variants.{Moved, Refused as OutOfRange}
+use Rattle.position.specs.Units.{tileAt}
+use Rattle.ranges.specs.Edges.{mgrsCheck}
 use Rattle.position.specs.Squares.{sideLength}
 use Rattle.composer.specs.declared.Composed.{Composed}
 use Rattle.composer.specs.declared.Composed.the-variants.{Full, Bare, Refused}
 
 -- "Southern tiles are r+100": the signed row of a tile.
-unfoldable pub rowOf : Bool → ℕ → ℤ
-rowOf north t = cond north (pos t) (pos t -ℤ pos 100)
+unfoldable pub rowOfTile : Bool → ℕ → ℤ
+rowOfTile north t = cond north (pos t) (pos t -ℤ pos 100)
 
 -- The letter of a tile, in a set whose first letter has a tile of its own; 0 below it and past the set's end.
 unfoldable pub letterOfTile : LetterSet → ℕ → ℕ
 letterOfTile set t = cond (ltb t (firstTile set)) 0 (letterAt set (t - firstTile set))
 
--- "A UTM band fits if the row is allowed for it and the column": the band at k is k - 10, "column index 0..7 is tile 1..8".
+-- "A UTM band fits if the row is allowed for it and the column": "column index 0..7 is tile 1..8".
 unfoldable pub utmFits : ℕ → ℕ → ℤ → Bool
-utmFits k column row = allowed (pos k -ℤ pos 10) (column - 1) row
+utmFits band column row = allowed (bandNumber band) (column - 1) row
 
 abbrev pub agree : Bool → Bool → Bool
 agree true b = b
@@ -40,15 +42,15 @@ agree false b = not b
 unfoldable pub upsFits : ℕ → Bool → ℕ → Bool
 upsFits band north column = agree (northBand band) north && agree (eastBand band) (leb 20 column)
 
--- Of zone, band and its place, hemisphere, the tiles of easting and northing.
-unfoldable pub fits : ℤ → ℕ → ℕ → Bool → ℕ → ℕ → Bool
-fits zone band k north column tile = cond (ltZ zone (pos 1)) (upsFits band north column) (utmFits k column (rowOf north tile))
+-- Of zone, band, hemisphere, the tiles of easting and northing.
+unfoldable pub fits : ℤ → ℕ → Bool → ℕ → ℕ → Bool
+fits zone band north column tile = cond (ltZ zone (pos 1)) (upsFits band north column) (utmFits band column (rowOfTile north tile))
 
 -- "the letter of signed row r is at r mod 20 .. in odd zones, (r+5) mod 20 in even ones"; a UPS row's tile has its letter.
 unfoldable pub rowLetter : ℤ → Bool → ℕ → ℕ
 rowLetter zone north tile =
     let rows = rowsOf zone north in
-    cond (ltZ zone (pos 1)) (letterOfTile rows tile) (letterAt rows (letterOf (shiftOf zone) (rowOf north tile)))
+    cond (ltZ zone (pos 1)) (letterOfTile rows tile) (letterAt rows (letterOf (shiftOf zone) (rowOfTile north tile)))
 
 -- "Digits are cut, never rounded": the whole sides of a square from the tile's edge on.
 unfoldable pub cutOf : ℤ → ℕ → ℕ
@@ -74,7 +76,7 @@ madeOf zone band north p e n =
 unfoldable pub composedAt : ℤ → ℕ → Bool → ℤ → ℕ → ℕ → Composed
 composedAt zone band north p e n =
     byPlace (placeOf (bandsOf zone) band) (Refused 18)  -- "band letter not a capital of that kind's set"
-    (λ k. cond (not (fits zone band k north (tileAt e) (tileAt n))) (Refused 19)  -- "band does not fit"
+    (λ k. cond (not (fits zone band north (tileAt e) (tileAt n))) (Refused 19)  -- "band does not fit"
     (madeOf zone band north p e n))
 
 abbrev pub reached : MgrsCheck → (Point → Composed) → Composed

@@ -1,14 +1,19 @@
 // A point to the parts of its reference, or the number of the rule that forbids writing it.
 use letters::Place;
-use position::MgrsCheck;
 use position::Parts;
+use ranges::MgrsCheck;
 ghost use mathlib.Core.Path.{_≡_};
-ghost use Prim.Native.Nat.{_≤_, _<_};
-ghost use lib.IntN.{pos, negsuc};
+ghost use Prim.Native.Nat.{_-_, _≤_, _<_};
+ghost use lib.IntN.{pos, negsuc, _-ℤ_};
 ghost use lib.Signed.{_≤ℤ_};
 ghost use Rattle.position.specs.Squares.{sideLength};
-ghost use Rattle.letters.specs.Sets.{columnsOf, rowsOf};
-ghost use Rattle.composer.specs.Compose.{agree, rowOf, letterOfTile, utmFits, upsFits, fits, rowLetter, cutOf, partsAt, madeOf, composedAt, composed};
+ghost use Rattle.letters.specs.declared.Place.the-variants.{At};
+ghost use Rattle.letters.specs.Letters.{placeOf};
+ghost use Rattle.bands.specs.Bands.{bandsOf};
+ghost use Rattle.columns.specs.Columns.{columnsOf};
+ghost use Rattle.row_letters.specs.RowLetters.{rowsOf};
+ghost use Rattle.rows.specs.Allowed.{allowed};
+ghost use Rattle.composer.specs.Compose.{agree, rowOfTile, letterOfTile, upsFits, fits, rowLetter, cutOf, partsAt, madeOf, composedAt, composed};
 
 // ---- a point's tiles, their letters and the bands that fit
 
@@ -17,7 +22,7 @@ const TILE: u64 = 200_000_000_000;
 // The signed row of a tile: southern ones are negative.
 fn row_of(north: bool, tile: usize) -> i64
     requires { ⌜ tile < 1000000000 ⌝ }
-    ensures { λ r. ⌜ r ≡ rowOf north tile ⌝ }
+    ensures { λ r. ⌜ r ≡ rowOfTile north tile ⌝ }
 {
     if north {
         return tile as i64;
@@ -29,16 +34,16 @@ fn row_of(north: bool, tile: usize) -> i64
 fn column_letter(zone: i64, band: u8, tile: usize) -> u8
     ensures { λ r. ⌜ r ≡ letterOfTile (columnsOf zone band) tile ⌝ }
 {
-    let west = letters::first_column(zone, band);
+    let west = columns::first_column(zone, band);
     if tile < west {
         return 0;
     }
-    letters::column_letter(zone, band, tile - west)
+    columns::column_letter(zone, band, tile - west)
 }
 
 fn utm_fits(k: usize, column: usize, row: i64) -> bool
     requires { ⌜ (k < 24) × (1 ≤ column) ⌝ }
-    ensures { λ r. ⌜ r ≡ utmFits k column row ⌝ }
+    ensures { λ r. ⌜ r ≡ allowed (pos k -ℤ pos 10) (column - 1) row ⌝ }
 {
     rows::is_allowed(k as i64 - 10, column - 1, row)
 }
@@ -62,9 +67,10 @@ fn ups_fits(band: u8, north: bool, column: usize) -> bool
     false
 }
 
+// The band's place in its set is handed over: it is not looked up again.
 fn is_fitting(zone: i64, band: u8, k: usize, north: bool, column: usize, tile: usize) -> bool
-    requires { ⌜ (k < 24) × (1 ≤ column) × (tile < 1000000000) ⌝ }
-    ensures { λ r. ⌜ r ≡ fits zone band k north column tile ⌝ }
+    requires { ⌜ (placeOf (bandsOf zone) band ≡ At k) × (1 ≤ column) × (tile < 1000000000) ⌝ }
+    ensures { λ r. ⌜ r ≡ fits zone band north column tile ⌝ }
 {
     if zone < 1 {
         return ups_fits(band, north, column);
@@ -76,11 +82,11 @@ fn is_fitting(zone: i64, band: u8, k: usize, north: bool, column: usize, tile: u
 fn ups_row_letter(zone: i64, north: bool, tile: usize) -> u8
     ensures { λ r. ⌜ r ≡ letterOfTile (rowsOf zone north) tile ⌝ }
 {
-    let south = letters::first_row(zone, north);
+    let south = row_letters::first_row(zone, north);
     if tile < south {
         return 0;
     }
-    letters::row_letter(zone, north, tile - south)
+    row_letters::row_letter(zone, north, tile - south)
 }
 
 fn row_letter(zone: i64, north: bool, tile: usize) -> u8
@@ -90,7 +96,7 @@ fn row_letter(zone: i64, north: bool, tile: usize) -> u8
     if zone < 1 {
         return ups_row_letter(zone, north, tile);
     }
-    letters::row_letter(
+    row_letters::row_letter(
         zone,
         north,
         rows::letter_of(rows::shift_of(zone), row_of(north, tile)),
@@ -159,7 +165,7 @@ fn compose_at(zone: i64, band: u8, north: bool, p: i64, e: u64, n: u64) -> Compo
     requires { ⌜ (200000000000 ≤ e) × (negsuc 0 ≤ℤ p) × (p ≤ℤ pos 11) ⌝ }
     ensures { λ r. ⌜ r ≡ composedAt zone band north p e n ⌝ }
 {
-    let Place::At(k) = letters::band_place(zone, band) else {
+    let Place::At(k) = bands::band_place(zone, band) else {
         return Composed::Refused(18);
     };
     let column = (e / TILE) as usize;
@@ -180,7 +186,7 @@ pub fn compose(zone: i64, north: bool, band: u8, p: i64, easting: i64, northing:
     if whole::is_outside(-1, 11, p) {
         return Composed::Refused(15);
     }
-    match position::mgrs_check_coords(zone, north, easting, northing) {
+    match ranges::mgrs_check_coords(zone, north, easting, northing) {
         MgrsCheck::Refused(k) => Composed::Refused(k),
         MgrsCheck::Moved(point) => {
             let e = whole::fold_of(point.easting);

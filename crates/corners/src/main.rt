@@ -1,41 +1,22 @@
-// Writes references and reads each back: document 01's three, every bare zone, and the four corners of every tile, for every
-// band. The gate holds what is printed to the file stdout, which was made from document 01.
-use libc::STDOUT_FILENO;
+// Writes references and reads each back: every bare zone, and the four corners of every tile, for every band. The gate holds
+// what is printed to the file stdout, which was made from document 01.
 use position::Position;
 use reader::Answer;
+use say::pen::front;
 use writer::Written;
-ghost use Prim.Native.Nat.{_<_};
 
 const TILE: u64 = 200_000_000_000;
 
 // The last unit of a tile, on one axis.
 const LAST: u64 = 199_999_999_999;
 
-const UTM_BANDS: [u8; 20] = *b"CDEFGHJKLMNPQRSTUVWX";
+// The bands of UTM and of UPS.
+const UTM: [u8; 20] = *b"CDEFGHJKLMNPQRSTUVWX";
 
-const UPS_BANDS: [u8; 4] = *b"ABYZ";
+const UPS: [u8; 4] = *b"ABYZ";
 
 // Check sums are taken below this.
 const SUMS: u64 = 4_294_967_296;
-
-// ---- printing
-
-fn say(text: &[u8]) {
-    io::write_all(STDOUT_FILENO, text);
-}
-
-fn number(n: u64) {
-    say(b" ");
-    io::print_decimal(STDOUT_FILENO, n);
-}
-
-fn hemisphere(north: bool) {
-    if north {
-        say(b" N ");
-        return;
-    }
-    say(b" S ");
-}
 
 // ---- one reference, written and read back
 
@@ -146,14 +127,6 @@ fn missed(count: Count) -> Count {
     }
 }
 
-// The first n bytes; all of them where there are fewer, which no written length comes to.
-fn front(out: &[u8], n: usize) -> &[u8] {
-    if n <= out.len() {
-        return &out[..n];
-    }
-    out
-}
-
 // Each reference gets a buffer of its own, so that nothing of an earlier one can help it.
 fn put(q: Position, count: Count) -> Count {
     let mut out = [b'.'; 32];
@@ -172,113 +145,15 @@ fn put(q: Position, count: Count) -> Count {
 }
 
 fn told(count: Count) {
-    say(b" tried");
-    number(count.tried);
-    say(b" written");
-    number(count.written);
-    say(b" back");
-    number(count.back);
-    say(b" sum");
-    number(count.sum);
-    say(b"\n");
-}
-
-// ---- document 01's examples
-
-fn signed(z: i64) {
-    if z < 0 {
-        say(b" -");
-        io::print_decimal(STDOUT_FILENO, whole::fold_of(z) + 1);
-        return;
-    }
-    number(whole::fold_of(z));
-}
-
-// Zone, hemisphere, band, p and the point.
-fn point(x: Position) {
-    signed(x.zone);
-    hemisphere(x.north);
-    say(&[x.band]);
-    signed(x.p);
-    signed(x.easting);
-    signed(x.northing);
-}
-
-fn answered(answer: Answer) {
-    match answer {
-        Answer::Square(x) => {
-            say(b" square");
-            point(x);
-        }
-        Answer::Bare(x) => {
-            say(b" bare");
-            point(x);
-        }
-        Answer::Refused(n) => {
-            say(b" R");
-            number(n);
-        }
-    }
-    say(b"\n");
-}
-
-fn read_as(text: &[u8]) {
-    say(text);
-    answered(reader::read(text));
-}
-
-// Of zone 18, with five digits an axis.
-fn example(north: bool, easting: i64, northing: i64, band: u8) {
-    let mut out = [b'.'; 32];
-    match writer::write(18, north, band, 5, easting, northing, &mut out) {
-        Written::Length(n) => read_as(front(&out, n)),
-        Written::Refused(n) => {
-            say(b"R");
-            number(n);
-            say(b"\n");
-        }
-    }
-}
-
-fn examples() {
-    example(true, 1_800_000_000_000, 9_000_000_000_000, b'T');
-    example(false, 1_000_000_000_000, 20_000_000_000_000, b'M');
-    example(true, 1_000_000_000_000, 0, b'N');
-}
-
-// ---- the caller that writes and reads
-
-fn back(zone: i64, north: bool, band: u8, p: i64, easting: i64, northing: i64) {
-    say(b"back");
-    point(Position {
-        zone,
-        north,
-        band,
-        p,
-        easting,
-        northing,
-    });
-    answered(trip::read_back(zone, north, band, p, easting, northing));
-}
-
-// At the edges, with all and with no digits, bare; then the refusals of writing.
-fn backs() {
-    back(18, true, b'T', 5, 1_800_000_000_000, 9_000_000_000_000);
-    back(18, false, b'M', 5, 1_000_000_000_000, 20_000_000_000_000);
-    back(60, true, b'X', 11, 1_234_567_890_123, 18_999_999_999_999);
-    back(0, false, b'B', 11, 6_400_000_000_000, 1_600_000_000_000);
-    back(4, true, b'Q', 0, 1_300_000_000_000, 4_700_000_000_000);
-    back(18, true, b'M', -1, 1_000_000_000_000, -1);
-    back(0, true, b'Z', -1, 4_800_000_000_000, 4_000_000_000_000);
-}
-
-fn refused_backs() {
-    back(61, true, b'T', 5, 1_000_000_000_000, 9_000_000_000_000);
-    back(18, true, b'T', 12, 1_000_000_000_000, 9_000_000_000_000);
-    back(18, true, b'T', 5, 0, 9_000_000_000_000);
-    back(18, true, b'T', 5, 1_000_000_000_000, 19_000_000_000_001);
-    back(18, true, b't', 5, 1_000_000_000_000, 9_000_000_000_000);
-    back(18, true, b'U', 5, 1_000_000_000_000, 9_000_000_000_000);
+    say::text(b" tried");
+    say::number(count.tried);
+    say::text(b" written");
+    say::number(count.written);
+    say::text(b" back");
+    say::number(count.back);
+    say::text(b" sum");
+    say::number(count.sum);
+    say::text(b"\n");
 }
 
 // ---- bare zones
@@ -292,97 +167,72 @@ fn bare_at(text: &[u8], count: Count) -> Count {
     }
 }
 
-fn digit(n: u64) -> u8
-    requires { ⌜ n < 10 ⌝ }
-{
-    b'0' + n as u8
+fn digit(n: u64) -> u8 {
+    b'0' + (n % 10) as u8
 }
 
-fn bare_band(zone: u64, band: u8, count: Count) -> Count
-    requires { ⌜ zone < 100 ⌝ }
-{
-    bare_at(&[digit(zone / 10), digit(zone % 10), band], count)
+// Zone 0 has no digits.
+fn bare_band(zone: u64, band: u8, count: Count) -> Count {
+    if zone == 0 {
+        return bare_at(&[band], count);
+    }
+    bare_at(&[digit(zone / 10), digit(zone), band], count)
 }
 
-fn bare_bands(zone: u64, start: Count) -> Count
-    requires { ⌜ zone < 100 ⌝ }
-{
+fn bare_bands(zone: u64, letters: &[u8], start: Count) -> Count {
     let mut count = start;
     let mut k = 0;
-    while k < 20 {
-        count = bare_band(zone, UTM_BANDS[k], count);
+    while k < letters.len() {
+        count = bare_band(zone, letters[k], count);
         k += 1;
     }
     count
 }
 
 fn bare_zones() -> Count {
+    let letters = UTM;
     let mut count = no_count();
     let mut zone = 1;
     while zone <= 60 {
-        count = bare_bands(zone, count);
+        count = bare_bands(zone, &letters, count);
         zone += 1;
     }
     count
 }
 
-fn bare_poles() -> Count {
-    let a = bare_at(b"A", no_count());
-    let b = bare_at(b"B", a);
-    let c = bare_at(b"Y", b);
-    bare_at(b"Z", c)
-}
-
 // ---- the corners of tiles
 
-// The first and the last unit of a tile on each axis.
 struct Tile {
     zone: i64,
     north: bool,
-    west: i64,
-    east: i64,
-    low: i64,
-    high: i64,
+    column: u64,
+    row: u64,
 }
 
-fn units(tile: u64, more: u64) -> i64
-    requires { ⌜ (tile < 1000) × (more < 200000000000) ⌝ }
-{
-    (tile * TILE + more) as i64
+// A unit of a tile, of which there are less than a thousand on one axis.
+fn units(tile: u64, within: u64) -> i64 {
+    (tile % 1_000 * TILE + within % TILE) as i64
 }
 
-fn tile_at(zone: i64, north: bool, column: u64, row: u64) -> Tile
-    requires { ⌜ (column < 1000) × (row < 1000) ⌝ }
-{
-    Tile {
-        zone,
-        north,
-        west: units(column, 0),
-        east: units(column, LAST),
-        low: units(row, 0),
-        high: units(row, LAST),
-    }
-}
-
-fn corner(tile: Tile, band: u8, p: i64, easting: i64, northing: i64, count: Count) -> Count {
+fn corner(tile: Tile, band: u8, p: i64, east: u64, north: u64, count: Count) -> Count {
     put(
         Position {
             zone: tile.zone,
             north: tile.north,
             band,
             p,
-            easting,
-            northing,
+            easting: units(tile.column, east),
+            northing: units(tile.row, north),
         },
         count,
     )
 }
 
 fn corners(tile: Tile, band: u8, p: i64, count: Count) -> Count {
-    let a = corner(tile, band, p, tile.west, tile.low, count);
-    let b = corner(tile, band, p, tile.east, tile.low, a);
-    let c = corner(tile, band, p, tile.west, tile.high, b);
-    corner(tile, band, p, tile.east, tile.high, c)
+    let a = corner(tile, band, p, 0, 0, count);
+    let b = corner(tile, band, p, LAST, 0, a);
+    let c = corner(tile, band, p, 0, LAST, b);
+    corner(tile, band, p, LAST, LAST, c)
 }
 
 // How many bands fit, are refused by 19 and are refused by anything else, and what was written of those that fit, by its
@@ -442,8 +292,8 @@ fn band_at(tile: Tile, band: u8, tally: Tally) -> Tally {
         tile.north,
         band,
         0,
-        tile.west,
-        tile.low,
+        units(tile.column, 0),
+        units(tile.row, 0),
         &mut out,
     ) {
         Written::Length(_) => fitting(tile, band, tally),
@@ -451,104 +301,102 @@ fn band_at(tile: Tile, band: u8, tally: Tally) -> Tally {
     }
 }
 
-fn utm_bands(tile: Tile, start: Tally) -> Tally {
+fn bands(tile: Tile, letters: &[u8], start: Tally) -> Tally {
     let mut tally = start;
     let mut k = 0;
-    while k < 20 {
-        tally = band_at(tile, UTM_BANDS[k], tally);
+    while k < letters.len() {
+        tally = band_at(tile, letters[k], tally);
         k += 1;
     }
     tally
 }
 
-// Rows -90 to 94 by their places 0 to 184: the south has tiles 10 to 99, the north 0 to 94.
-fn utm_row(zone: i64, column: u64, place: u64, tally: Tally) -> Tally
-    requires { ⌜ (column < 1000) × (place < 185) ⌝ }
-{
-    if place < 90 {
-        return utm_bands(tile_at(zone, false, column, place + 10), tally);
-    }
-    utm_bands(tile_at(zone, true, column, place - 90), tally)
-}
-
-fn utm_column(zone: i64, column: u64, start: Tally) -> Tally
-    requires { ⌜ column < 1000 ⌝ }
-{
+// The tiles of a column, from a first one to before the end.
+fn rows(first: Tile, end: u64, letters: &[u8], start: Tally) -> Tally {
     let mut tally = start;
-    let mut place = 0;
-    while place < 185 {
-        tally = utm_row(zone, column, place, tally);
-        place += 1;
-    }
-    tally
-}
-
-fn utm_zone(zone: i64, start: Tally) -> Tally {
-    let mut tally = start;
-    let mut column = 1;
-    while column <= 8 {
-        tally = utm_column(zone, column, tally);
-        column += 1;
-    }
-    tally
-}
-
-fn utm_zones(first: u64, last: u64, start: Tally) -> Tally
-    requires { ⌜ last < 100 ⌝ }
-{
-    let mut tally = start;
-    let mut zone = first;
-    while zone <= last {
-        tally = utm_zone(zone as i64, tally);
-        zone += 1;
-    }
-    tally
-}
-
-fn ups_bands(tile: Tile, start: Tally) -> Tally {
-    let mut tally = start;
-    let mut k = 0;
-    while k < 4 {
-        tally = band_at(tile, UPS_BANDS[k], tally);
-        k += 1;
-    }
-    tally
-}
-
-// The tiles of one column of a pole, from the range's first to before its end.
-fn ups_column(north: bool, column: u64, first: u64, end: u64, start: Tally) -> Tally
-    requires { ⌜ (column < 1000) × (end < 1000) ⌝ }
-{
-    let mut tally = start;
-    let mut row = first;
+    let mut row = first.row;
     while row < end {
-        tally = ups_bands(tile_at(0, north, column, row), tally);
+        let tile = Tile {
+            zone: first.zone,
+            north: first.north,
+            column: first.column,
+            row,
+        };
+        tally = bands(tile, letters, tally);
         row += 1;
     }
     tally
 }
 
-fn ups_pole(north: bool, first: u64, end: u64, start: Tally) -> Tally
-    requires { ⌜ end < 1000 ⌝ }
-{
+// UTM has rows 10 to 99 in the south and 0 to 94 in the north; those of UPS are its columns again.
+fn column(first: Tile, end: u64, letters: &[u8], start: Tally) -> Tally {
+    if first.zone == 0 {
+        return rows(first, end, letters, start);
+    }
+    let south = Tile {
+        zone: first.zone,
+        north: false,
+        column: first.column,
+        row: 10,
+    };
+    let north = Tile {
+        zone: first.zone,
+        north: true,
+        column: first.column,
+        row: 0,
+    };
+    rows(north, 95, letters, rows(south, 100, letters, start))
+}
+
+// The columns of a zone or of a pole, from the first to before the end.
+fn columns(zone: i64, north: bool, first: u64, end: u64, letters: &[u8], start: Tally) -> Tally {
     let mut tally = start;
-    let mut column = first;
-    while column < end {
-        tally = ups_column(north, column, first, end, tally);
-        column += 1;
+    let mut at = first;
+    while at < end {
+        let tile = Tile {
+            zone,
+            north,
+            column: at,
+            row: first,
+        };
+        tally = column(tile, end, letters, tally);
+        at += 1;
     }
     tally
 }
 
+fn zones() -> Tally {
+    let letters = UTM;
+    let mut tally = no_tally();
+    let mut zone: u64 = 1;
+    while zone <= 60 {
+        tally = columns(zone as i64, true, 1, 9, &letters, tally);
+        zone += 1;
+    }
+    tally
+}
+
+fn poles() -> Tally {
+    let south = columns(0, false, 8, 32, &UPS, no_tally());
+    columns(0, true, 13, 27, &UPS, south)
+}
+
+fn told_of(kind: &[u8], p: u64, count: Count) {
+    say::text(kind);
+    say::text(b" p");
+    say::number(p);
+    told(count);
+}
+
 fn told_all(kind: &[u8], tally: Tally) {
-    say(kind);
-    say(b" bands fitting");
-    number(tally.fitting);
-    say(b" R 19");
-    number(tally.misfits);
-    say(b" other");
-    number(tally.others);
-    say(b"\n");
+    say::text(kind);
+    say::text(b" bands fitting");
+    say::number(tally.fitting);
+    say::text(b" R 19");
+    say::number(tally.misfits);
+    say::text(b" other");
+    say::number(tally.others);
+    say::text(b"\n");
     told_of(kind, 0, tally.none);
     told_of(kind, 1, tally.one);
     told_of(kind, 5, tally.five);
@@ -556,24 +404,11 @@ fn told_all(kind: &[u8], tally: Tally) {
     told_of(kind, 11, tally.eleven);
 }
 
-fn told_of(kind: &[u8], p: u64, count: Count) {
-    say(kind);
-    say(b" p");
-    number(p);
-    told(count);
-}
-
 fn main() {
-    examples();
-    backs();
-    refused_backs();
-    say(b"utm bare");
+    say::text(b"utm bare");
     told(bare_zones());
-    say(b"ups bare");
-    told(bare_poles());
-    told_all(b"utm", utm_zones(1, 60, no_tally()));
-    told_all(
-        b"ups",
-        ups_pole(true, 13, 27, ups_pole(false, 8, 32, no_tally())),
-    );
+    say::text(b"ups bare");
+    told(bare_bands(0, &UPS, no_count()));
+    told_all(b"utm", zones());
+    told_all(b"ups", poles());
 }

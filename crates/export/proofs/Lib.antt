@@ -1,4 +1,1 @@
-pub mod Refusals
-mod Room
-pub mod Signs
 pub mod Unique

@@ -9,16 +9,18 @@ use borrow.Author.Tests.{ne-eqb}
 use lib.IntN.{pos, _-ℤ_}
 use lib.ListN.{length}
 use Rattle.whole.proofs.Parts.{clash}
-use Rattle.letters.specs.Letters.{firstTile}
-use Rattle.letters.specs.Sets.{columnsOf, rowsOf, northBand}
+use Rattle.letters.specs.Letters.{firstTile, northBand}
+use Rattle.bands.specs.Bands.{bandNumber}
+use Rattle.columns.specs.Columns.{columnsOf}
+use Rattle.row_letters.specs.RowLetters.{rowsOf}
 use Rattle.rows.specs.declared.RowAnswer.{RowAnswer}
 use Rattle.rows.specs.declared.RowAnswer.the-variants.{Row, Nothing}
 use Rattle.rows.specs.Letters.{shiftOf}
 use Rattle.rows.specs.Resolve.{resolve}
 use Rattle.rows.proofs.Theorems.{found, answered, nothing, unique}
 use Rattle.reader.specs.declared.Answer.the-variants.{Square, Refused}
-use Rattle.reader.specs.Head.{letterIn}
-use Rattle.reader.specs.Block.{tileOf, tilesOf, onRow, utmBlock, blockOf}
+use Rattle.head.specs.Head.{letterIn}
+use Rattle.block.specs.Block.{tileOf, tilesOf, onRow, utmBlock, blockOf}
 use Rattle.reader.specs.Read.{blocked, partsOf, squareOf, fullOf, tailOf, readOf}
 use Rattle.laws.specs.Sound.{restOf, Sound, Utm, Ups, HasRow, Accepted, squareIn}
 
@@ -30,7 +32,7 @@ module _ (s : List ℕ) (o : Sound s) where
   east = firstTile (columnsOf (o .head .zone) (o .head .band)) + o .c
 
   -- what is left to decide is the block
-  to-block : readOf s ≡ blocked (blockOf (o .head .zone) (o .head .band) (o .head .place) (letterIn rest 0) (letterIn rest 1))
+  to-block : readOf s ≡ blocked (blockOf (o .head .zone) (o .head .band) (letterIn rest 0) (letterIn rest 1))
       (λ t. Square (squareOf (partsOf (o .head .zone) (o .head .band) (letterIn rest 0) (letterIn rest 1) (o .digits)) t))
   unfolding readOf tailOf fullOf rest
   to-block =
@@ -41,13 +43,13 @@ module _ (s : List ℕ) (o : Sound s) where
 
   -- in UTM, by the row that resolution answers
   row-of : RowAnswer
-  row-of = resolve (shiftOf (o .head .zone)) (pos (o .head .place) -ℤ pos 10) (o .c) (o .l)
+  row-of = resolve (shiftOf (o .head .zone)) (bandNumber (o .head .band)) (o .c) (o .l)
 
-  utm-block : Utm o → blockOf (o .head .zone) (o .head .band) (o .head .place) (letterIn rest 0) (letterIn rest 1) ≡ onRow east row-of
+  utm-block : Utm o → blockOf (o .head .zone) (o .head .band) (letterIn rest 0) (letterIn rest 1) ≡ onRow east row-of
   unfolding blockOf utmBlock rest east row-of
   utm-block u = rw (o .column, o .row, u)
 
-  ups-block : Ups o → blockOf (o .head .zone) (o .head .band) (o .head .place) (letterIn rest 0) (letterIn rest 1)
+  ups-block : Ups o → blockOf (o .head .zone) (o .head .band) (letterIn rest 0) (letterIn rest 1)
       ≡ tilesOf east (firstTile (rowsOf (o .head .zone) (northBand (o .head .band))) + o .l)
   unfolding blockOf rest east
   ups-block u = rw (o .column, o .row, u)
@@ -57,20 +59,20 @@ module _ (s : List ℕ) (o : Sound s) where
     pub with-row : (h : HasRow o) → readOf s ≡ Square (squareIn o (tileOf (h .r)))
     unfolding rest east row-of
     with-row h =
-        let f = found (pos (o .head .place) -ℤ pos 10) (o .c) (shiftOf (o .head .zone)) (o .l) (h .r) (h .is-allowed) (h .has-letter) in
+        let f = found (bandNumber (o .head .band)) (o .c) (shiftOf (o .head .zone)) (o .l) (h .r) (h .is-allowed) (h .has-letter) in
         to-block ∙ rw (utm-block u, f)
 
     -- without one, the answer is 10
     pub without-row : (HasRow o → ⊥) → readOf s ≡ Refused 10
     unfolding rest east row-of
     without-row n =
-        let f = nothing (pos (o .head .place) -ℤ pos 10) (o .c) (shiftOf (o .head .zone)) (o .l) (λ r a e. n (record { r = r; is-allowed = a; has-letter = e })) in
+        let f = nothing (bandNumber (o .head .band)) (o .c) (shiftOf (o .head .zone)) (o .l) (λ r a e. n (record { r = r; is-allowed = a; has-letter = e })) in
         to-block ∙ rw (utm-block u, f)
 
     by-answer : (a : RowAnswer) → row-of ≡ a → Accepted s → HasRow o
     unfolding rest east row-of
     by-answer (Row x) e h =
-        let k = answered (pos (o .head .place) -ℤ pos 10) (o .c) (shiftOf (o .head .zone)) (o .l) x e in
+        let k = answered (bandNumber (o .head .band)) (o .c) (shiftOf (o .head .zone)) (o .l) x e in
         record { r = x .row; is-allowed = k .0; has-letter = k .1 }
     by-answer Nothing e h = let k : Refused 10 ≡ Square (h .q) = sym (to-block ∙ rw (utm-block u, e)) ∙ h .is in clash (cc)
 
@@ -80,7 +82,7 @@ module _ (s : List ℕ) (o : Sound s) where
 
     -- "only one such row exists"
     pub one-row : (h k : HasRow o) → h .r ≡ k .r
-    one-row h k = unique (pos (o .head .place) -ℤ pos 10) (o .c) (shiftOf (o .head .zone)) (h .r) (k .r) (h .is-allowed) (k .is-allowed) (h .has-letter ∙ sym (k .has-letter))
+    one-row h k = unique (bandNumber (o .head .band)) (o .c) (shiftOf (o .head .zone)) (h .r) (k .r) (h .is-allowed) (k .is-allowed) (h .has-letter ∙ sym (k .has-letter))
 
   -- UPS rows: "all are allowed"
   pub polar : Ups o → readOf s ≡ Square (squareIn o (firstTile (rowsOf (o .head .zone) (northBand (o .head .band))) + o .l))

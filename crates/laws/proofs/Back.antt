@@ -16,33 +16,36 @@ use Rattle.whole.specs.Floor.{fold}
 use Rattle.whole.proofs.Parts.{clash}
 use Rattle.whole.proofs.Ranges.{not-outside}
 use Rattle.letters.specs.declared.Place.the-variants.{At}
-use Rattle.letters.specs.Letters.{placeOf}
-use Rattle.letters.specs.Sets.{gridOf, bandsOf, columnsOf, rowsOf, northBand}
-use Rattle.runs.specs.Runs.{hasHigh, lastDigits}
+use Rattle.letters.specs.Letters.{placeOf, northBand}
+use Rattle.bands.specs.Bands.{gridOf, bandsOf}
+use Rattle.columns.specs.Columns.{columnsOf}
+use Rattle.row_letters.specs.RowLetters.{rowsOf}
+use Rattle.words.specs.Bytes.{hasHigh}
+use Rattle.runs.specs.Runs.{lastDigits}
 use Rattle.runs.proofs.Decimals.{digits-length, digits-all, digits-value, all-append, low-digits}
 use Rattle.position.specs.declared.Parts.{Parts}
-use Rattle.position.specs.declared.Point.{Point}
-use Rattle.position.specs.declared.MgrsCheck.the-variants.{Moved}
-use Rattle.position.specs.Edges.{mgrsCheck}
+use Rattle.ranges.specs.declared.Point.{Point}
+use Rattle.ranges.specs.declared.MgrsCheck.the-variants.{Moved}
+use Rattle.ranges.specs.Edges.{mgrsCheck}
 use Rattle.position.specs.Squares.{sideLength, numberOf, centreOf, holds}
 use Rattle.position.proofs.Squares.{centre-at, side-pos, tile-sides, holds-is}
-use Rattle.position.proofs.Reach.{Counted, Within, UpsReach, utm-reach, ups-reach, east-count, north-count}
-use Rattle.reader.specs.declared.Tiles.{Tiles}
-use Rattle.reader.specs.declared.BlockAnswer.the-variants.{Block}
+use Rattle.ranges.proofs.Reach.{Counted, Within, UpsReach, utm-reach, ups-reach, east-count, north-count}
+use Rattle.block.specs.declared.Tiles.{Tiles}
+use Rattle.block.specs.declared.BlockAnswer.the-variants.{Block}
 use Rattle.runs.specs.declared.DigitsAnswer.the-variants.{Halves}
 use Rattle.reader.specs.declared.Answer.{Answer}
 use Rattle.reader.specs.declared.Answer.the-variants.{Square, Bare}
-use Rattle.reader.specs.Bare.{bareOf}
-use Rattle.reader.specs.Block.{blockOf}
+use Rattle.block.specs.Bare.{bareOf}
+use Rattle.block.specs.Block.{blockOf}
 use Rattle.runs.specs.Digits.{digitsOf}
 use Rattle.reader.specs.Read.{squareOf, fullOf, tailOf, readOf}
-use Rattle.reader.proofs.Stages.{placed}
+use Rattle.block.proofs.Placed.{placed}
 use Rattle.composer.specs.declared.BareZone.{BareZone}
 use Rattle.composer.specs.declared.Composed.{Composed}
 use Rattle.composer.specs.declared.Composed.the-variants.{Full, Bare as BareText, Refused as NotComposed}
 use Rattle.writer.specs.declared.Written.the-variants.{Length}
 use Rattle.writer.specs.Text.{headText, blockText, fullText}
-use Rattle.position.specs.Ranges.{tileAt}
+use Rattle.position.specs.Units.{tileAt}
 use Rattle.composer.specs.Compose.{cutOf, fits, letterOfTile, rowLetter, partsAt, composed}
 use Rattle.writer.specs.Write.{fitOf, leavesOf, answered, kept, writeOf, writeLeaves}
 use Rattle.writer.proofs.Fit.{held, fitted}
@@ -78,16 +81,16 @@ no-high n x y =
 -- ---- a text of sound parts
 
 module _ (z band k column row n x y : ℕ) (t : Tiles) (most : z ≤ 60) (place : placeOf (bandsOf (pos z)) band ≡ At k)
-    (block : blockOf (pos z) band k column row ≡ Block t) (few : n ≤ 11) (hx : x < 10 ^ n) (hy : y < 10 ^ n) where
+    (block : blockOf (pos z) band column row ≡ Block t) (few : n ≤ 11) (hx : x < 10 ^ n) (hy : y < 10 ^ n) where
   -- zone, letters and digits
   abbrev parts : Parts
   parts = record { zone = pos z; band = band; column = column; row = row; p = pos n; easting = x; northing = y }
 
   -- after the band
-  tail-reads : tailOf (pos z) band k (blockText parts) ≡ Square (squareOf parts t)
+  tail-reads : tailOf (pos z) band (blockText parts) ≡ Square (squareOf parts t)
   unfolding tailOf fullOf blockText
   tail-reads =
-      let b = placed (pos z) band k column row t block in
+      let b = placed (pos z) band column row t block in
       let m : 2 ≤ length (blockText parts) = omega arith in
       rw (
         ne-eqb (length (blockText parts)) 0 (λ q. omega arith),
@@ -102,7 +105,7 @@ module _ (z band k column row n x y : ℕ) (t : Tiles) (most : z ≤ 60) (place 
   low-block : hasHigh (blockText parts) ≡ false
   unfolding hasHigh blockText
   low-block =
-      let b = placed (pos z) band k column row t block in
+      let b = placed (pos z) band column row t block in
       rw (
         not-high (columnsOf (pos z) band) column (b .c) (b .is-column),
         not-high (rowsOf (pos z) (northBand band)) row (b .l) (b .is-row),
@@ -161,21 +164,21 @@ polar-within point true e r = r .north e
 polar-within point false e r = r .south e
 
 -- the letters of a point that fits are read as its tiles
-abbrev PointReads : ℤ → ℕ → ℕ → Point → Type 0
-PointReads zone band k point = Reads zone band k (point .north) (tileAt (fold (point .easting))) (tileAt (fold (point .northing)))
+abbrev PointReads : ℤ → ℕ → Point → Type 0
+PointReads zone band point = Reads zone band (point .north) (tileAt (fold (point .easting))) (tileAt (fold (point .northing)))
 
-abbrev PointFits : ℤ → ℕ → ℕ → Point → Type 0
-PointFits zone band k point = fits zone band k (point .north) (tileAt (fold (point .easting))) (tileAt (fold (point .northing))) ≡ true
+abbrev PointFits : ℤ → ℕ → Point → Type 0
+PointFits zone band point = fits zone band (point .north) (tileAt (fold (point .easting))) (tileAt (fold (point .northing))) ≡ true
 
 module _ (north : Bool) (band : ℕ) (e n : ℤ) (point : Point) (k : ℕ) where
   -- in UTM, in UPS, in both
-  utm-point : (z : ℕ) → 1 ≤ z → z ≤ 60 → mgrsCheck (pos z) north e n ≡ Moved point → placeOf (bandsOf (pos z)) band ≡ At k → PointFits (pos z) band k point → PointReads (pos z) band k point
+  utm-point : (z : ℕ) → 1 ≤ z → z ≤ 60 → mgrsCheck (pos z) north e n ≡ Moved point → placeOf (bandsOf (pos z)) band ≡ At k → PointFits (pos z) band point → PointReads (pos z) band point
   utm-point z least most h place fit =
       let r = utm-reach (pos z) north e n point h (utm-grid z least most) in
       utm-reads z band k (point .north) _ _ least most place fit
       (tile-from 1 9 (point .easting) (r .east)) (tile-to 1 9 (point .easting) (r .east)) (λ s. tile-to 10 100 (point .northing) (r .south s))
 
-  ups-point : mgrsCheck (pos 0) north e n ≡ Moved point → placeOf (bandsOf (pos 0)) band ≡ At k → PointFits (pos 0) band k point → PointReads (pos 0) band k point
+  ups-point : mgrsCheck (pos 0) north e n ≡ Moved point → placeOf (bandsOf (pos 0)) band ≡ At k → PointFits (pos 0) band point → PointReads (pos 0) band point
   unfolding gridOf
   ups-point h place fit =
       let t = point .north in
@@ -184,7 +187,7 @@ module _ (north : Bool) (band : ℕ) (e n : ℤ) (point : Point) (k : ℕ) where
       (tile-from (lowTile t) (highTile t) (point .easting) (w .east)) (tile-to (lowTile t) (highTile t) (point .easting) (w .east))
       (tile-from (lowTile t) (highTile t) (point .northing) (w .north)) (tile-to (lowTile t) (highTile t) (point .northing) (w .north))
 
-  point-reads : (z : ℕ) → z ≤ 60 → mgrsCheck (pos z) north e n ≡ Moved point → placeOf (bandsOf (pos z)) band ≡ At k → PointFits (pos z) band k point → PointReads (pos z) band k point
+  point-reads : (z : ℕ) → z ≤ 60 → mgrsCheck (pos z) north e n ≡ Moved point → placeOf (bandsOf (pos z)) band ≡ At k → PointFits (pos z) band point → PointReads (pos z) band point
   point-reads zero most h place fit = ups-point h place fit
   point-reads (suc m) most h place fit = utm-point (suc m) (omega arith) most h place fit
 
@@ -210,7 +213,7 @@ full-at (pos z) north band (pos j) e n c t =
     ∙ rw (r .side)
 
 -- a composed zone and band are read as the bare zone
-pub bare-at : (zone : ℤ) (band k : ℕ) → outside (pos 0) (pos 60) zone ≡ false → placeOf (bandsOf zone) band ≡ At k → readOf (headText zone band) ≡ Bare (bareOf zone band k)
+pub bare-at : (zone : ℤ) (band k : ℕ) → outside (pos 0) (pos 60) zone ≡ false → placeOf (bandsOf zone) band ≡ At k → readOf (headText zone band) ≡ Bare (bareOf zone band)
 unfolding readOf tailOf hasHigh
 bare-at (negsuc z) band k h place = let f = not-outside (pos 0) (pos 60) (negsuc z) h .0 in clash (cc)
 bare-at (pos z) band k h place =
@@ -232,9 +235,9 @@ module _ (zone : ℤ) (north : Bool) (band : ℕ) (p e n : ℤ) where
   unfolding backOf
   back-square parts point x h = rw (x, h)
 
-  back-bare : (z : BareZone) (k : ℕ) → composed zone north band p e n ≡ BareText z → placeOf (bandsOf zone) band ≡ At k → backOf zone north band p e n ≡ Bare (bareOf zone band k)
+  back-bare : (z : BareZone) → composed zone north band p e n ≡ BareText z → backOf zone north band p e n ≡ Bare (bareOf zone band)
   unfolding backOf
-  back-bare z k x h = rw (x, h)
+  back-bare z x = rw x
 
   -- what is composed reads as that
   pub full-reads : (parts : Parts) → composed zone north band p e n ≡ Full parts → readOf (fullText parts) ≡ backOf zone north band p e n
@@ -249,7 +252,7 @@ module _ (zone : ℤ) (north : Bool) (band : ℕ) (p e n : ℤ) where
       let f = bare zone north band p e n z x in
       ap (λ (q : BareZone). readOf (headText (q .zone) (q .band))) (f .is)
       ∙ bare-at zone band (f .checked .k) (f .checked .zone-in) (f .checked .is-band)
-      ∙ sym (back-bare z (f .checked .k) x (f .checked .is-band))
+      ∙ sym (back-bare z x)
 
   -- by what is composed
   back-by : (c : Composed) (l : List ℕ) (m : ℕ) → composed zone north band p e n ≡ c → answered c (length l) ≡ Length m → readOf (take m (kept c l)) ≡ backOf zone north band p e n
@@ -292,8 +295,8 @@ module _ (zone : ℤ) (north : Bool) (band : ℕ) (p e n : ℤ) where
   bare-back z x =
       let f = bare zone north band p e n z x in
       record {
-        q = bareOf zone band (f .checked .k);
-        is = back-bare zone north band p e n z (f .checked .k) x (f .checked .is-band);
+        q = bareOf zone band;
+        is = back-bare zone north band p e n z x;
         zone-is = refl;
         band-is = refl;
         p-is = refl;

@@ -12,17 +12,18 @@ use Rattle.whole.specs.Compare.{isNumber}
 use Rattle.whole.specs.Floor.{floorDiv}
 use Rattle.whole.proofs.Parts.{T-true}
 use Rattle.whole.proofs.Table.{each}
-use Rattle.letters.specs.Letters.{UtmBands, placeOf}
+use Rattle.letters.specs.Letters.{UtmBands, placeOf, northBand, eastBand}
 use Rattle.letters.specs.declared.Place.the-variants.{At}
-use Rattle.letters.specs.Sets.{bandsOf, northBand, eastBand}
+use Rattle.bands.specs.Bands.{bandsOf, bandIndex, bandNumber}
+use Rattle.bands.proofs.Index.{zone-index}
 use Rattle.letters.proofs.Laws.{place-below}
 use Rattle.rows.specs.Limits.{limitsOf}
 use Rattle.rows.specs.Allowed.{within, sameSign, allowed}
 use Rattle.rows.proofs.Theorems.{in-rows}
-use Rattle.position.specs.Ranges.{tiles, tileAt}
-use Rattle.reader.specs.Bare.{metres, bareEasting, bareTile, bareNorthing}
-use Rattle.reader.specs.Block.{tileOf}
-use Rattle.reader.proofs.Bounds.{south-tile}
+use Rattle.position.specs.Units.{tiles, tileAt, metres}
+use Rattle.block.specs.Bare.{bareEasting, bareTile, bareNorthing}
+use Rattle.block.specs.Block.{tileOf}
+use Rattle.block.proofs.Bounds.{south-tile}
 use Rattle.laws.proofs.Inside.{Kind, kind, Inside, row-side, utm-inside, Polar, ups-inside}
 
 -- a coordinate that is not negative, and its tile
@@ -32,12 +33,12 @@ pub record InTile (z : ℤ) (t : ℕ) : Type 0 where
   pub tile : tileAt units ≡ t
 
 -- the tiles of the point
-pub record BarePoint (zone : ℤ) (band k : ℕ) : Type 0 where
+pub record BarePoint (zone : ℤ) (band : ℕ) : Type 0 where
   pub e : ℕ
   pub n : ℕ
-  pub inside : Inside zone band k e n
+  pub inside : Inside zone band e n
   pub easting : InTile (bareEasting zone band) e
-  pub northing : InTile (bareNorthing zone band k) n
+  pub northing : InTile (bareNorthing zone band) n
 
 -- ---- UTM
 
@@ -63,19 +64,20 @@ utm-north (negsuc n) h =
     record { units = (99 - n) * 200000000000; is = ap tiles e; tile = mul-div-cancel (99 - n) (lit< tt) }
 
 -- so the point of a UTM band
-utm-point : (zone : ℤ) (band k : ℕ) → Kind zone false → placeOf (bandsOf zone) band ≡ At k → BarePoint zone band k
+utm-point : (zone : ℤ) (band k : ℕ) → Kind zone false → placeOf (bandsOf zone) band ≡ At k → BarePoint zone band
 unfolding bandsOf bareEasting bareNorthing
 utm-point zone band k z b =
     let v = isNumber zone 31 && eqb band (code "V") in
     let i = utm-east v in
-    let h = place-below UtmBands band k (rw (z .grid) at b) in
-    let a = bare-allowed k (cond v 3 4) h (i .0) in
-    let s = row-side zone band k (cond v 3 4) (bareTile k) (z .grid) b a in
-    let n = utm-north (bareTile k) (in-rows (pos k -ℤ pos 10) (cond v 3 4) (bareTile k) a .0) in
+    let j = bandIndex band in
+    let h : j < 20 = rw (zone-index zone band k (z .grid) b) (place-below UtmBands band k (rw (z .grid) at b)) in
+    let a = bare-allowed j (cond v 3 4) h (i .0) in
+    let s = row-side zone band k (cond v 3 4) (bareTile j) (z .grid) b a in
+    let n = utm-north (bareTile j) (in-rows (bandNumber band) (cond v 3 4) (bareTile j) a .0) in
     record {
       e = 1 + cond v 3 4;
-      n = tileOf (bareTile k);
-      inside = utm-inside zone band k (cond v 3 4) (bareTile k) z b a;
+      n = tileOf (bareTile j);
+      inside = utm-inside zone band k (cond v 3 4) (bareTile j) z b a;
       easting = rw (z .test) (i .1);
       northing = rw (z .test, s) n;
     }
@@ -95,12 +97,12 @@ ups-half false true = record { from-west = lit≤ tt; to-east = lit< tt; from-lo
 ups-half false false = record { from-west = lit≤ tt; to-east = lit< tt; from-low = lit≤ tt; to-high = lit< tt }
 
 -- so the point of a UPS band
-ups-point : (zone : ℤ) (band k : ℕ) → Kind zone true → BarePoint zone band k
+ups-point : (zone : ℤ) (band : ℕ) → Kind zone true → BarePoint zone band
 unfolding bareEasting bareNorthing
-ups-point zone band k z = record {
+ups-point zone band z = record {
   e = cond (eastBand band) 24 16;
   n = 20;
-  inside = ups-inside zone band k _ _ z (ups-half (northBand band) (eastBand band));
+  inside = ups-inside zone band _ _ z (ups-half (northBand band) (eastBand band));
   easting = rw (z .test) (ups-east (eastBand band));
   northing = rw (z .test) (record { units = 4000000000000; is = refl; tile = refl });
 }
@@ -108,10 +110,10 @@ ups-point zone band k z = record {
 -- ---- both
 
 -- of either kind
-by-kind : (zone : ℤ) (band k : ℕ) (ups : Bool) → Kind zone ups → placeOf (bandsOf zone) band ≡ At k → BarePoint zone band k
-by-kind zone band k true z b = ups-point zone band k z
+by-kind : (zone : ℤ) (band k : ℕ) (ups : Bool) → Kind zone ups → placeOf (bandsOf zone) band ≡ At k → BarePoint zone band
+by-kind zone band k true z b = ups-point zone band z
 by-kind zone band k false z b = utm-point zone band k z b
 
 -- of every band
-pub bare-point : (zone : ℤ) (band k : ℕ) → placeOf (bandsOf zone) band ≡ At k → BarePoint zone band k
+pub bare-point : (zone : ℤ) (band k : ℕ) → placeOf (bandsOf zone) band ≡ At k → BarePoint zone band
 bare-point zone band k b = by-kind zone band k (ltZ zone (pos 1)) (kind zone band k b) b

@@ -8,26 +8,28 @@ use borrow.Author.Tests.{le-ltb}
 use lib.IntN.{ℤ, pos, _-ℤ_}
 use lib.Signed.{ltZ}
 use Rattle.whole.proofs.Parts.{clash}
-use Rattle.letters.specs.declared.Grid.the-variants.{Ups}
-use Rattle.letters.specs.Letters.{LetterSet, UpsRowsSouth, UpsRowsNorth, placeOf, firstTile}
+use Rattle.bands.specs.declared.Grid.the-variants.{Ups}
+use Rattle.letters.specs.Letters.{LetterSet, UpsRowsSouth, UpsRowsNorth, placeOf, firstTile, northBand, eastBand}
 use Rattle.letters.specs.declared.Place.the-variants.{At}
-use Rattle.letters.specs.Sets.{gridOf, bandsOf, upsColumns, columnsOf, rowsOf, northBand, eastBand}
+use Rattle.bands.specs.Bands.{bandNumber, gridOf, bandsOf}
+use Rattle.columns.specs.Columns.{upsColumns, columnsOf}
+use Rattle.row_letters.specs.RowLetters.{rowsOf}
 use Rattle.letters.proofs.Laws.{place-below, place-holds}
 use Rattle.rows.specs.declared.RowAnswer.{RowAnswer}
 use Rattle.rows.specs.declared.RowAnswer.the-variants.{Row, Nothing}
 use Rattle.rows.specs.Letters.{shiftOf}
 use Rattle.rows.specs.Resolve.{resolve}
 use Rattle.rows.proofs.Theorems.{answered, in-rows}
-use Rattle.reader.specs.declared.Tiles.{Tiles}
-use Rattle.reader.specs.declared.BlockAnswer.the-variants.{Block}
-use Rattle.reader.specs.Block.{tileOf, tilesOf, onRow, utmBlock, blockOf}
-use Rattle.reader.proofs.Stages.{placed}
+use Rattle.block.specs.declared.Tiles.{Tiles}
+use Rattle.block.specs.declared.BlockAnswer.the-variants.{Block}
+use Rattle.block.specs.Block.{tileOf, tilesOf, onRow, utmBlock, blockOf}
+use Rattle.block.proofs.Placed.{placed}
 use Rattle.composer.specs.Compose.{letterOfTile, rowLetter}
 use Rattle.laws.proofs.Inside.{Kind, kind, utm-columns, Inside, row-side, row-back, utm-inside, half-columns, hemisphere-rows, Polar, ups-inside}
 
 -- what is known of the tiles of a block
-pub record Stands (zone : ℤ) (band k column row : ℕ) (t : Tiles) : Type 0 where
-  pub inside : Inside zone band k (t .easting) (t .northing)
+pub record Stands (zone : ℤ) (band column row : ℕ) (t : Tiles) : Type 0 where
+  pub inside : Inside zone band (t .easting) (t .northing)
   pub column-is : letterOfTile (columnsOf zone band) (t .easting) ≡ column
   pub row-is : rowLetter zone (northBand band) (t .northing) ≡ row
 
@@ -62,13 +64,13 @@ module _ (zone : ℤ) (band k column row c l : ℕ) (t : Tiles) (b : placeOf (ba
     (is-column : placeOf (columnsOf zone band) column ≡ At c) (is-row : placeOf (rowsOf zone (northBand band)) row ≡ At l) where
   module _ (z : Kind zone false) where
     -- on the row that resolution answers
-    on-row : (a : RowAnswer) → resolve (shiftOf zone) (pos k -ℤ pos 10) c l ≡ a → onRow (firstTile (columnsOf zone band) + c) a ≡ Block t
-        → Stands zone band k column row t
+    on-row : (a : RowAnswer) → resolve (shiftOf zone) (bandNumber band) c l ≡ a → onRow (firstTile (columnsOf zone band) + c) a ≡ Block t
+        → Stands zone band column row t
     unfolding rowLetter
     on-row (Row found) e x =
         let q : record { easting = firstTile (columnsOf zone band) + c; northing = tileOf (found .row) } ≡ t = cc in
-        let r = answered (pos k -ℤ pos 10) c (shiftOf zone) l found e in
-        let h = in-rows (pos k -ℤ pos 10) c (found .row) (r .0) in
+        let r = answered (bandNumber band) c (shiftOf zone) l found e in
+        let h = in-rows (bandNumber band) c (found .row) (r .0) in
         let s = row-side zone band k c (found .row) (z .grid) b (r .0) in
         rw (← q)
         (record {
@@ -79,33 +81,33 @@ module _ (zone : ℤ) (band k column row c l : ℕ) (t : Tiles) (b : placeOf (ba
     on-row Nothing e x = clash (cc)
 
     -- the tiles of a UTM block
-    utm-stands : utmBlock zone k c l (firstTile (columnsOf zone band) + c) ≡ Block t → Stands zone band k column row t
+    utm-stands : utmBlock zone band c l (firstTile (columnsOf zone band) + c) ≡ Block t → Stands zone band column row t
     unfolding utmBlock
-    utm-stands x = on-row (resolve (shiftOf zone) (pos k -ℤ pos 10) c l) refl x
+    utm-stands x = on-row (resolve (shiftOf zone) (bandNumber band) c l) refl x
 
   -- and those of a UPS block
   ups-stands : Kind zone true → tilesOf (firstTile (columnsOf zone band) + c) (firstTile (rowsOf zone (northBand band)) + l) ≡ Block t
-      → Stands zone band k column row t
+      → Stands zone band column row t
   unfolding rowLetter
   ups-stands z x =
       let q : record { easting = firstTile (columnsOf zone band) + c; northing = firstTile (rowsOf zone (northBand band)) + l } ≡ t = cc in
       rw (← q)
       (record {
-        inside = ups-inside zone band k _ _ z (in-half zone band k column row c l (z .grid) b is-column is-row);
+        inside = ups-inside zone band _ _ z (in-half zone band k column row c l (z .grid) b is-column is-row);
         column-is = letter-back (columnsOf zone band) column c is-column;
         row-is = rw (z .test) (letter-back (rowsOf zone (northBand band)) row l is-row);
       })
 
   -- of either kind
   by-kind : (ups : Bool) → Kind zone ups
-      → cond ups (tilesOf (firstTile (columnsOf zone band) + c) (firstTile (rowsOf zone (northBand band)) + l)) (utmBlock zone k c l (firstTile (columnsOf zone band) + c)) ≡ Block t
-      → Stands zone band k column row t
+      → cond ups (tilesOf (firstTile (columnsOf zone band) + c) (firstTile (rowsOf zone (northBand band)) + l)) (utmBlock zone band c l (firstTile (columnsOf zone band) + c)) ≡ Block t
+      → Stands zone band column row t
   by-kind true z x = ups-stands z x
   by-kind false z x = utm-stands z x
 
 -- of every block that was read
-pub stands : (zone : ℤ) (band k column row : ℕ) (t : Tiles) → placeOf (bandsOf zone) band ≡ At k → blockOf zone band k column row ≡ Block t
-    → Stands zone band k column row t
+pub stands : (zone : ℤ) (band k column row : ℕ) (t : Tiles) → placeOf (bandsOf zone) band ≡ At k → blockOf zone band column row ≡ Block t
+    → Stands zone band column row t
 stands zone band k column row t b e =
-    let p = placed zone band k column row t e in
+    let p = placed zone band column row t e in
     by-kind zone band k column row (p .c) (p .l) t b (p .is-column) (p .is-row) (ltZ zone (pos 1)) (kind zone band k b) (p .then)

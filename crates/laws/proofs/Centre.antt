@@ -9,7 +9,7 @@ use Rattle.position.proofs.Squares.{centre-at}
 use Rattle.reader.specs.declared.Answer.the-variants.{Square}
 use Rattle.reader.specs.Read.{squareOf, readOf}
 use Rattle.reader.proofs.Stages.{squared}
-use Rattle.reader.proofs.Sizes.{halved-by}
+use Rattle.runs.proofs.Halves.{halved-by}
 use Rattle.laws.specs.Centre.{Centred}
 
 axis : (p : ℤ) (n t d v : ℕ) → p ≡ pos n → n ≤ 11 → d < 10 ^ n → d ≡ v → pos (centreOf p t d) ≡ pos (centre n (numberOf n t v))

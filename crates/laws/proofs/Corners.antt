@@ -11,28 +11,30 @@ use lib.IntN.{ℤ, pos, negsuc}
 use lib.ListN.{length, take, drop, length-take, length-drop}
 use Rattle.whole.specs.Compare.{outside}
 use Rattle.letters.specs.declared.Place.the-variants.{At}
-use Rattle.letters.specs.Letters.{placeOf}
-use Rattle.letters.specs.Sets.{bandsOf, northBand}
+use Rattle.letters.specs.Letters.{placeOf, northBand}
+use Rattle.bands.specs.Bands.{bandsOf}
 use Rattle.position.specs.declared.Parts.{Parts}
 use Rattle.position.specs.declared.Position.{Position}
 use Rattle.position.specs.Squares.{sideLength, numberOf, centreOf, cornerOf}
 use Rattle.position.proofs.Squares.{centre-at, corner-is, side-pos, tile-sides, half-is}
-use Rattle.runs.specs.Runs.{allDigits, lastDigits}
-use Rattle.runs.proofs.Laws.{and-left, and-right, all-split}
+use Rattle.words.specs.Bytes.{allDigits}
+use Rattle.runs.specs.Runs.{lastDigits}
+use Rattle.words.proofs.Laws.{and-left, and-right, all-split}
 use Rattle.runs.proofs.Decimals.{first-digits}
-use Rattle.reader.specs.declared.Head.{Head}
-use Rattle.reader.specs.declared.HeadAnswer.the-variants.{Start}
-use Rattle.reader.specs.declared.Tiles.{Tiles}
+use Rattle.head.specs.declared.Head.{Head}
+use Rattle.head.specs.declared.HeadAnswer.the-variants.{Start}
+use Rattle.block.specs.declared.Tiles.{Tiles}
 use Rattle.runs.specs.declared.Digits.{Digits}
 use Rattle.reader.specs.declared.Answer.the-variants.{Square}
-use Rattle.reader.specs.Head.{letterIn, headOf}
+use Rattle.head.specs.Head.{letterIn, headOf}
 use Rattle.reader.specs.Read.{partsOf, squareOf, readOf}
-use Rattle.reader.proofs.Stages.{began, squared}
-use Rattle.reader.proofs.Sizes.{Halved, halved-by}
+use Rattle.head.proofs.Began.{began}
+use Rattle.reader.proofs.Stages.{squared}
+use Rattle.runs.proofs.Halves.{Halved, halved-by}
 use Rattle.composer.specs.declared.Composed.{Composed}
 use Rattle.composer.specs.declared.Composed.the-variants.{Full}
 use Rattle.writer.specs.Text.{blockText, fullText}
-use Rattle.position.specs.Ranges.{tileAt}
+use Rattle.position.specs.Units.{tileAt}
 use Rattle.composer.specs.Compose.{cutOf, partsAt, madeOf, composed}
 use Rattle.writer.specs.Write.{fitOf, leavesOf, answered, kept, writeOf, writeLeaves}
 use Rattle.writer.proofs.Fit.{room, held}
@@ -44,8 +46,8 @@ use Rattle.laws.proofs.Blocks.{Stands, stands}
 use lib.Pow.{pow-add}
 use lib.Seq.{take-take}
 use Rattle.whole.proofs.Powers.{ten-pos}
-use Rattle.reader.specs.declared.BlockAnswer.the-variants.{Block}
-use Rattle.reader.specs.Block.{blockOf}
+use Rattle.block.specs.declared.BlockAnswer.the-variants.{Block}
+use Rattle.block.specs.Block.{blockOf}
 use Rattle.laws.specs.Squares.{shortText}
 
 -- ---- the bytes
@@ -90,7 +92,7 @@ module _ (p t d : ℕ) (h : p ≤ 11) (g : d < 10 ^ p) where
 
 -- of a point in tiles whose points stay and that its band fits
 pub from-tiles : (zone : ℤ) (band k e n : ℕ) (p : ℤ) (x y : ℕ) → placeOf (bandsOf zone) band ≡ At k → outside (negsuc 0) (pos 11) p ≡ false
-    → Inside zone band k e n → tileAt x ≡ e → tileAt y ≡ n
+    → Inside zone band e n → tileAt x ≡ e → tileAt y ≡ n
     → composed zone (northBand band) band p (pos x) (pos y) ≡ madeOf zone band (northBand band) p x y
 from-tiles zone band k e n p x y b w i h g =
     made zone (northBand band) band p k x y (kind zone band k b .in-range) w (i .stays x y h g) b (rw (h, g) (i .fit))
@@ -101,8 +103,11 @@ unfolding outside
 p-right n h = rw (le-ltb 11 n h)
 
 -- the band of a head has its place
-pub head-place : (s : List ℕ) (h : Head) → headOf s ≡ Start h → placeOf (bandsOf (h .zone)) (h .band) ≡ At (h .place)
-head-place s h e = let b = began s h e in rw (b .zone, b .band) (b .place)
+placed-as : (z : ℤ) (b v l k : ℕ) → z ≡ pos v → b ≡ l → placeOf (bandsOf (pos v)) l ≡ At k → placeOf (bandsOf z) b ≡ At k
+placed-as z b v l k e f p = rw (e, f) p
+
+pub head-place : (s : List ℕ) (h : Head) (e : headOf s ≡ Start h) → placeOf (bandsOf (h .zone)) (h .band) ≡ At (began s h e .k)
+head-place s h e = let b = began s h e in placed-as (h .zone) (h .band) _ _ _ (b .zone) (b .band) (b .place)
 
 -- ---- fewer digits
 
@@ -137,7 +142,7 @@ module _ (p q : ℕ) (few : p ≤ 11) (le : q ≤ p) where
 -- ---- what is composed of the corner at q
 
 module _ (zone : ℤ) (band k column row : ℕ) (tiles : Tiles) (p q d f : ℕ) (b : placeOf (bandsOf zone) band ≡ At k)
-    (o : Stands zone band k column row tiles) (few : p ≤ 11) (le : q ≤ p) (g : d < 10 ^ p) (i : f < 10 ^ p) where
+    (o : Stands zone band column row tiles) (few : p ≤ 11) (le : q ≤ p) (g : d < 10 ^ p) (i : f < 10 ^ p) where
   -- the zone, the letters and the first q digits
   abbrev shorter : Parts
   shorter = partsOf zone band column row (record { p = pos q; easting = d / ten p q; northing = f / ten p q })
@@ -173,7 +178,7 @@ partsIn s h d = partsOf (h .zone) (h .band) (letterIn (restOf s h) 0) (letterIn 
 -- the tiles, and d and f, the digits of easting and northing: the first q of them are the first q bytes of their half
 pub record Told (s : List ℕ) (x : Position) (h : Head) (p : ℕ) : Type 0 where
   pub tiles : Tiles
-  pub block : blockOf (h .zone) (h .band) (h .place) (letterIn (restOf s h) 0) (letterIn (restOf s h) 1) ≡ Block tiles
+  pub block : blockOf (h .zone) (h .band) (letterIn (restOf s h) 0) (letterIn (restOf s h) 1) ≡ Block tiles
   pub few : p ≤ 11
   pub d : ℕ
   pub f : ℕ
@@ -243,5 +248,5 @@ module _ (s : List ℕ) (x : Position) (h : Head) (p q : ℕ) (t : Told s x h p)
   short-writes =
       let b = head-place s h start in
       let o = stands _ _ _ _ _ _ b (t .block) in
-      let c = short-composed (h .zone) (h .band) (h .place) _ _ (t .tiles) p q (t .d) (t .f) b o (t .few) le (t .east-lt) (t .north-lt) in
+      let c = short-composed (h .zone) (h .band) _ _ _ (t .tiles) p q (t .d) (t .f) b o (t .few) le (t .east-lt) (t .north-lt) in
       rw (t .is) (written _ (Full short-parts) (shortText s h p q) c (λ m. rw short-text) (λ l. rw short-text))

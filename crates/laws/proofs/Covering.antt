@@ -16,29 +16,28 @@ use Rattle.whole.proofs.Ranges.{not-outside}
 use Rattle.whole.proofs.Signed.{same→eq, same-yes}
 use Rattle.letters.specs.declared.Place.the-variants.{At}
 use Rattle.letters.specs.Letters.{placeOf}
-use Rattle.letters.specs.Sets.{bandsOf}
-use Rattle.runs.proofs.Laws.{and-left, and-right}
+use Rattle.bands.specs.Bands.{bandsOf}
+use Rattle.words.proofs.Laws.{and-left, and-right}
 use Rattle.position.specs.declared.Position.{Position}
 use Rattle.position.specs.Squares.{sideLength, numberOf, centreOf, cornerOf}
-use Rattle.reader.specs.declared.Head.{Head}
-use Rattle.reader.specs.declared.HeadAnswer.the-variants.{Start}
-use Rattle.reader.specs.declared.Tiles.{Tiles}
-use Rattle.reader.specs.declared.BlockAnswer.the-variants.{Block}
+use Rattle.head.specs.declared.Head.{Head}
+use Rattle.head.specs.declared.HeadAnswer.the-variants.{Start}
+use Rattle.block.specs.declared.Tiles.{Tiles}
+use Rattle.block.specs.declared.BlockAnswer.the-variants.{Block}
 use Rattle.reader.specs.declared.Answer.{Answer}
 use Rattle.reader.specs.declared.Answer.the-variants.{Square, Bare, Refused as NotRead}
-use Rattle.reader.specs.Head.{headOf}
-use Rattle.reader.specs.Bare.{bareOf}
-use Rattle.reader.specs.Block.{blockOf}
+use Rattle.head.specs.Head.{headOf}
+use Rattle.block.specs.Bare.{bareOf}
+use Rattle.block.specs.Block.{blockOf}
 use Rattle.reader.specs.Read.{partsOf, squareOf, readOf}
 use Rattle.reader.proofs.Stages.{squared}
 use Rattle.writer.specs.Text.{headText, fullText}
 use Rattle.squares.specs.declared.Covering.the-variants.{Covers}
-use Rattle.squares.specs.Covers.{sameArea, axisWithin, squareWithin, verdict, covering, coversOf}
+use Rattle.squares.specs.Covers.{sameArea, axisWithin, squareWithin, coversIf, covering, coversOf}
 use Rattle.laws.specs.Squares.{shortText}
 use Rattle.laws.proofs.Inside.{kind}
-use Rattle.laws.proofs.Corners.{corner, head-place}
+use Rattle.laws.proofs.Corners.{corner, head-place, ten, sides, powers, first-lt, Told, told, short-parts, short-text}
 use Rattle.laws.proofs.Back.{zone-most, parts-read, bare-at}
-use Rattle.laws.proofs.Corners.{ten, sides, powers, first-lt, Told, told, short-parts, short-text}
 
 -- ---- the tests
 
@@ -119,10 +118,10 @@ bare-covers s x h e start =
     let i = a .is-head in
     let same-head : a .head ≡ h = cc in
     let b = head-place s h start in
-    let r = bare-at (h .zone) (h .band) (h .place) (kind (h .zone) (h .band) (h .place) b .in-range) b in
+    let r = bare-at (h .zone) (h .band) _ (kind (h .zone) (h .band) _ b .in-range) b in
     let z = ap (λ (y : Position). y .zone) (a .is) ∙ ap (λ (y : Head). y .zone) same-head in
     let n = ap (λ (y : Position). y .band) (a .is) ∙ ap (λ (y : Head). y .band) same-head in
-    rw (e, r, area (bareOf (h .zone) (h .band) (h .place)) x (sym z) (sym n))
+    rw (e, r, area (bareOf (h .zone) (h .band)) x (sym z) (sym n))
 
 -- ---- what it is shortened to covers it
 
@@ -155,7 +154,7 @@ module _ (p q t d : ℕ) (few : p ≤ 11) (le : q ≤ p) (g : d < 10 ^ p) where
 
 -- the text of sound parts is read as their square in the tiles of their letters
 any-read : (zone : ℤ) (band k column row n x y : ℕ) (t : Tiles) → outside (pos 0) (pos 60) zone ≡ false → placeOf (bandsOf zone) band ≡ At k
-    → blockOf zone band k column row ≡ Block t → n ≤ 11 → x < 10 ^ n → y < 10 ^ n
+    → blockOf zone band column row ≡ Block t → n ≤ 11 → x < 10 ^ n → y < 10 ^ n
     → let parts = partsOf zone band column row (record { p = pos n; easting = x; northing = y }) in readOf (fullText parts) ≡ Square (squareOf parts t)
 any-read (negsuc z) band k column row n x y t h place block few hx hy = let f = not-outside (pos 0) (pos 60) (negsuc z) h .0 in clash (cc)
 any-read (pos z) band k column row n x y t h place block few hx hy = parts-read z band k column row n x y t (zone-most z h) place block few hx hy
@@ -167,7 +166,7 @@ short-read s x h p q t start le =
     let b = head-place s h start in
     let few = t .few in
     ap readOf (sym (short-text s x h p q t start le))
-    ∙ any-read (h .zone) (h .band) (h .place) _ _ q _ _ (t .tiles) (kind (h .zone) (h .band) (h .place) b .in-range) b (t .block) (omega arith)
+    ∙ any-read (h .zone) (h .band) _ _ _ q _ _ (t .tiles) (kind (h .zone) (h .band) _ b .in-range) b (t .block) (omega arith)
     (first-lt p q few le 0 (t .d) (t .east-lt)) (first-lt p q few le 0 (t .f) (t .north-lt))
 
 -- so what is shortened covers what it was made from
@@ -183,8 +182,8 @@ short-covers s x p q h e w le start =
 
 -- ---- covering goes on
 
--- a verdict of covering is a test that passed
-yes : (t : Bool) → verdict t ≡ Covers → t ≡ true
+-- what covers has passed its test
+yes : (t : Bool) → coversIf t ≡ Covers → t ≡ true
 yes true e = refl
 yes false e = clash (cc)
 

@@ -11,16 +11,17 @@ use lib.ListN.{length, getD, drop, length-append}
 use lib.Seq.{append-snoc, getD-append-seam, drop-append-add}
 use Rattle.whole.proofs.Parts.{clash}
 use Rattle.letters.specs.Letters.{LetterSet, NoLetters, UtmBands, UpsBands, capitalOf, placeFrom, placeOf}
-use Rattle.letters.specs.declared.Grid.{Grid}
-use Rattle.letters.specs.declared.Grid.the-variants.{Utm, Ups, NoZone}
+use Rattle.bands.specs.declared.Grid.{Grid}
+use Rattle.bands.specs.declared.Grid.the-variants.{Utm, Ups, NoZone}
 use Rattle.letters.specs.declared.Place.the-variants.{At, NotInSet}
-use Rattle.letters.specs.Sets.{gridOf, byGrid, bandsOf}
+use Rattle.bands.specs.Bands.{gridOf, byGrid, bandsOf}
 use Rattle.letters.proofs.Laws.{no-capital}
-use Rattle.runs.specs.Runs.{high, hasHigh, isDigit, allDigits, valueFrom, valueOf, leadOf, lastDigits}
-use Rattle.runs.proofs.Laws.{digit-range, all-head}
+use Rattle.words.specs.Bytes.{high, hasHigh, isDigit, allDigits}
+use Rattle.runs.specs.Runs.{valueFrom, valueOf, leadOf, lastDigits}
+use Rattle.words.proofs.Laws.{digit-range, all-head}
 use Rattle.runs.proofs.Decimals.{digits-length, digits-all, digits-value, low-digits, leading}
-use Rattle.reader.specs.declared.HeadAnswer.the-variants.{Start}
-use Rattle.reader.specs.Head.{invLetters, isInv, zoneWrong, headOf}
+use Rattle.head.specs.declared.HeadAnswer.the-variants.{Start}
+use Rattle.head.specs.Head.{invLetters, isInv, zoneWrong, headOf}
 use Rattle.writer.specs.Text.{headText}
 
 -- ---- every letter of a set is a capital
@@ -84,9 +85,7 @@ module _ (zs : List ℕ) (z band k : ℕ) (rest : List ℕ)
   -- the leading digits end at the band
   lead-is : leadOf (zs ++ (band ∷ rest)) ≡ record { count = length zs; value = z }
   unfolding leadOf
-  lead-is =
-      let m : min 61 z ≡ z = omega arith in
-      rw (leading zs band rest digits (no-digit (bandsOf (pos z)) band k place), value, m)
+  lead-is = rw (leading zs band rest digits (no-digit (bandsOf (pos z)) band k place), value)
 
   -- no byte is high
   none-high : hasHigh (zs ++ (band ∷ rest)) ≡ false
@@ -99,7 +98,7 @@ module _ (zs : List ℕ) (z band k : ℕ) (rest : List ℕ)
   first-by (d ∷ ds) t e = digit-no-i d (all-head d ds t) e
 
   -- so the head is found
-  starts-at : headOf (zs ++ (band ∷ rest)) ≡ Start (record { zone = pos z; band = band; place = k; next = length zs + 1 })
+  starts-at : headOf (zs ++ (band ∷ rest)) ≡ Start (record { zone = pos z; band = band; next = length zs + 1 })
   unfolding headOf
   starts-at =
       let more : length zs < length (zs ++ (band ∷ rest)) = simp length-append (omega arith) in
@@ -152,14 +151,14 @@ text-is z band rest = text-by z band rest (ltb z 1)
 
 -- ---- so
 
--- a text begins with a zone, a band of it at a place, and goes on with a rest
-pub record Starts (s : List ℕ) (zone : ℤ) (band k : ℕ) (rest : List ℕ) : Type 0 where
+-- a text begins with a zone, a band of it, and goes on with a rest
+pub record Starts (s : List ℕ) (zone : ℤ) (band : ℕ) (rest : List ℕ) : Type 0 where
   pub next : ℕ
-  pub is-head : headOf s ≡ Start (record { zone = zone; band = band; place = k; next = next })
+  pub is-head : headOf s ≡ Start (record { zone = zone; band = band; next = next })
   pub after : drop next s ≡ rest
 
 -- what the writer puts in front of a rest begins so
-pub starts : (z band k : ℕ) (rest : List ℕ) → z ≤ 60 → placeOf (bandsOf (pos z)) band ≡ At k → hasHigh rest ≡ false → Starts (headText (pos z) band ++ rest) (pos z) band k rest
+pub starts : (z band k : ℕ) (rest : List ℕ) → z ≤ 60 → placeOf (bandsOf (pos z)) band ≡ At k → hasHigh rest ≡ false → Starts (headText (pos z) band ++ rest) (pos z) band rest
 starts z band k rest h place low =
     let zs = zoneDigits z in
     let o = zone-by z h (ltb z 1) refl in

@@ -13,19 +13,22 @@ use Rattle.whole.specs.Compare.{outside}
 use Rattle.whole.specs.Floor.{floorMod}
 use Rattle.whole.proofs.Parts.{up, dn, clash, eq-by, sub-parts, ≤ℤ-parts}
 use Rattle.whole.proofs.Table.{alike}
-use Rattle.letters.specs.declared.Grid.the-variants.{Utm, Ups, NoZone}
-use Rattle.letters.specs.Letters.{UtmBands, UpsBands, UtmColumns0, UtmColumns1, UtmColumns2, UpsRowsSouth, UpsRowsNorth, placeFrom, placeOf, letterAt, firstTile}
+use Rattle.bands.specs.declared.Grid.the-variants.{Utm, Ups, NoZone}
+use Rattle.letters.specs.Letters.{UtmBands, UpsBands, UtmColumns0, UtmColumns1, UtmColumns2, UpsRowsSouth, UpsRowsNorth, placeFrom, placeOf, letterAt, firstTile, northBand, eastBand}
 use Rattle.letters.specs.declared.Place.the-variants.{At, NotInSet}
-use Rattle.letters.specs.Sets.{gridOf, bandsOf, utmColumns, upsColumns, columnsOf, northBand, eastBand}
+use Rattle.bands.specs.Bands.{gridOf, bandsOf, bandNumber}
+use Rattle.columns.specs.Columns.{utmColumns, upsColumns, columnsOf}
+use Rattle.bands.proofs.Index.{index-is}
 use Rattle.letters.proofs.Laws.{sizeOf, place-below, place-holds}
 use Rattle.rows.specs.Allowed.{within, sameSign, folded, allowed}
 use Rattle.rows.proofs.Theorems.{in-rows, own-sign}
-use Rattle.position.specs.declared.MgrsCheck.the-variants.{Moved}
-use Rattle.position.specs.Ranges.{from-to, eastings, tileAt}
-use Rattle.position.specs.Edges.{point, mgrsCheck}
-use Rattle.position.proofs.Stays.{north-stays, south-stays, polar-stays}
-use Rattle.reader.specs.Block.{tileOf}
-use Rattle.composer.specs.Compose.{rowOf, utmFits, agree, upsFits, fits}
+use Rattle.ranges.specs.declared.MgrsCheck.the-variants.{Moved}
+use Rattle.ranges.specs.Ranges.{from-to, eastings}
+use Rattle.position.specs.Units.{tileAt}
+use Rattle.ranges.specs.Edges.{point, mgrsCheck}
+use Rattle.ranges.proofs.Stays.{north-stays, south-stays, polar-stays}
+use Rattle.block.specs.Block.{tileOf}
+use Rattle.composer.specs.Compose.{rowOfTile, utmFits, agree, upsFits, fits}
 
 -- ---- the zone
 
@@ -65,18 +68,18 @@ utm-columns zone band g = let m = floorMod (zone -ℤ pos 1) 3 in rw g (columns-
 -- ---- the tiles
 
 -- of the tiles of easting and northing: the band fits, and every point in them stays as it is
-pub record Inside (zone : ℤ) (band k e n : ℕ) : Type 0 where
-  pub fit : fits zone band k (northBand band) e n ≡ true
+pub record Inside (zone : ℤ) (band e n : ℕ) : Type 0 where
+  pub fit : fits zone band (northBand band) e n ≡ true
   pub stays : (x y : ℕ) → tileAt x ≡ e → tileAt y ≡ n
       → mgrsCheck zone (northBand band) (pos x) (pos y) ≡ Moved (point (northBand band) (pos x) (pos y))
 
 -- ---- UTM: an allowed row
 
 -- the letters from N are the bands from 0 on
-band-side : (band k : ℕ) → placeOf UtmBands band ≡ At k → northBand band ≡ sameSign (pos k -ℤ pos 10) (pos 0)
+band-side : (band k : ℕ) → placeOf UtmBands band ≡ At k → northBand band ≡ sameSign (bandNumber band) (pos 0)
 unfolding letterAt
 band-side band k e =
-    rw (← place-holds UtmBands band k e)
+    rw (index-is band k e, ← place-holds UtmBands band k e)
     (alike (λ k. northBand (letterAt UtmBands k)) (λ k. sameSign (pos k -ℤ pos 10) (pos 0)) 20 refl true k (place-below UtmBands band k e))
 
 -- of two numbers with one sign, both or neither have that of 0
@@ -87,14 +90,14 @@ one-side (negsuc b) (pos r) e = e
 one-side (negsuc b) (negsuc r) e = refl
 
 -- so an allowed row is north of the equator exactly if its band is
-pub row-side : (zone : ℤ) (band k c : ℕ) (r : ℤ) → gridOf zone ≡ Utm → placeOf (bandsOf zone) band ≡ At k → allowed (pos k -ℤ pos 10) c r ≡ true
+pub row-side : (zone : ℤ) (band k c : ℕ) (r : ℤ) → gridOf zone ≡ Utm → placeOf (bandsOf zone) band ≡ At k → allowed (bandNumber band) c r ≡ true
     → northBand band ≡ sameSign r (pos 0)
 unfolding bandsOf
-row-side zone band k c r g e a = band-side band k (rw g at e) ∙ one-side (pos k -ℤ pos 10) r (own-sign (pos k -ℤ pos 10) c r a)
+row-side zone band k c r g e a = band-side band k (rw g at e) ∙ one-side (bandNumber band) r (own-sign (bandNumber band) c r a)
 
 -- a row's tile, on its side of the equator, is the tile of that row
-pub row-back : (r : ℤ) → negsuc 89 ≤ℤ r → rowOf (sameSign r (pos 0)) (tileOf r) ≡ r
-unfolding rowOf up dn
+pub row-back : (r : ℤ) → negsuc 89 ≤ℤ r → rowOfTile (sameSign r (pos 0)) (tileOf r) ≡ r
+unfolding rowOfTile up dn
 row-back (pos n) h = refl
 row-back (negsuc n) h =
     let k = ≤ℤ-parts (negsuc 89) (negsuc n) h in
@@ -116,12 +119,12 @@ unfolding allowed
 column-le b c r a = leb→le c 7 (and-yes (leb c 7) (within b r || folded b c r) (subst T (sym a) tt) .0)
 
 -- so the tiles of a column and an allowed row are inside
-pub utm-inside : (zone : ℤ) (band k c : ℕ) (r : ℤ) → Kind zone false → placeOf (bandsOf zone) band ≡ At k → allowed (pos k -ℤ pos 10) c r ≡ true
-    → Inside zone band k (1 + c) (tileOf r)
+pub utm-inside : (zone : ℤ) (band k c : ℕ) (r : ℤ) → Kind zone false → placeOf (bandsOf zone) band ≡ At k → allowed (bandNumber band) c r ≡ true
+    → Inside zone band (1 + c) (tileOf r)
 unfolding fits utmFits
 utm-inside zone band k c r z p a =
-    let h = in-rows (pos k -ℤ pos 10) c r a in
-    let b = column-le (pos k -ℤ pos 10) c r a in
+    let h = in-rows (bandNumber band) c r a in
+    let b = column-le (bandNumber band) c r a in
     let s = row-side zone band k c r (z .grid) p a in
     let i : 1 + c - 1 ≡ c = omega arith in
     record {
@@ -195,9 +198,9 @@ ends-are true = refl
 ends-are false = refl
 
 -- so tiles in the half of a band are inside
-pub ups-inside : (zone : ℤ) (band k e n : ℕ) → Kind zone true → Polar (northBand band) (eastBand band) e n → Inside zone band k e n
+pub ups-inside : (zone : ℤ) (band e n : ℕ) → Kind zone true → Polar (northBand band) (eastBand band) e n → Inside zone band e n
 unfolding fits upsFits
-ups-inside zone band k e n z t =
+ups-inside zone band e n z t =
     let b = half (northBand band) (eastBand band) e (t .from-west) (t .to-east) in
     let s = t .from-low in
     let m = t .to-high in

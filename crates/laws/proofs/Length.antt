@@ -17,7 +17,8 @@ use Rattle.composer.specs.declared.BareZone.{BareZone}
 use Rattle.composer.specs.declared.Composed.{Composed}
 use Rattle.composer.specs.declared.Composed.the-variants.{Full, Bare, Refused as NotComposed}
 use Rattle.writer.specs.declared.Written.the-variants.{Length, Refused as NotWritten}
-use Rattle.writer.specs.Text.{headText, headLength, fullText}
+use Rattle.writer.specs.Text.{headText, fullText}
+use Rattle.writer.specs.inner.Lengths.{headLength}
 use Rattle.composer.specs.Compose.{partsAt, composed}
 use Rattle.writer.specs.Write.{fitOf, answered, writeOf}
 use Rattle.writer.proofs.Fit.{room, fitted}

@@ -8,18 +8,20 @@ use lib.Dec.{T, leb}
 use lib.IntN.{ℤ, pos, negsuc, _-ℤ_}
 use mir.Facts.{and-yes}
 use Rattle.whole.proofs.Parts.{up, dn, T-true, eq-by, sub-parts}
-use Rattle.letters.specs.Letters.{LetterSet, UtmRows, placeOf, firstTile}
-use Rattle.letters.specs.declared.Grid.the-variants.{Utm}
+use Rattle.letters.specs.Letters.{LetterSet, UtmRows, placeOf, firstTile, northBand, eastBand}
+use Rattle.bands.specs.declared.Grid.the-variants.{Utm}
 use Rattle.letters.specs.declared.Place.the-variants.{At}
-use Rattle.letters.specs.Sets.{gridOf, bandsOf, columnsOf, rowsOf, northBand, eastBand}
+use Rattle.bands.specs.Bands.{bandNumber, gridOf, bandsOf}
+use Rattle.columns.specs.Columns.{columnsOf}
+use Rattle.row_letters.specs.RowLetters.{rowsOf}
 use Rattle.letters.proofs.Laws.{sizeOf, letter-found}
 use Rattle.rows.specs.Allowed.{allowed, sameSign}
 use Rattle.rows.specs.Letters.{shiftOf, letterOf}
 use Rattle.rows.proofs.Period.{letter-lt}
 use Rattle.rows.proofs.Theorems.{found}
-use Rattle.reader.specs.Block.{tileOf, tilesOf, utmBlock, blockOf}
+use Rattle.block.specs.Block.{tileOf, tilesOf, utmBlock, blockOf}
 use Rattle.laws.proofs.Inside.{row-side, utm-columns, lowTile, highTile, westTile, eastTile, half-columns, hemisphere-rows}
-use Rattle.composer.specs.Compose.{rowOf, letterOfTile, utmFits, agree, upsFits, fits, rowLetter}
+use Rattle.composer.specs.Compose.{rowOfTile, letterOfTile, utmFits, agree, upsFits, fits, rowLetter}
 
 -- ---- a tile of a set has its letter there
 
@@ -57,21 +59,21 @@ unfolding up dn
 southern tile h = let s = sub-parts (pos tile) (pos 100) in eq-by (pos tile -ℤ pos 100) (negsuc (99 - tile)) (omega arith)
 
 -- the row of a tile is on its side of the equator
-tile-side : (north : Bool) (tile : ℕ) → (north ≡ false → tile < 100) → sameSign (rowOf north tile) (pos 0) ≡ north
-unfolding rowOf
+tile-side : (north : Bool) (tile : ℕ) → (north ≡ false → tile < 100) → sameSign (rowOfTile north tile) (pos 0) ≡ north
+unfolding rowOfTile
 tile-side true tile h = refl
 tile-side false tile h = rw (southern tile (h refl))
 
 -- the tile that a row is read as
-row-tile : (north : Bool) (tile : ℕ) → (north ≡ false → tile < 100) → tileOf (rowOf north tile) ≡ tile
-unfolding rowOf
+row-tile : (north : Bool) (tile : ℕ) → (north ≡ false → tile < 100) → tileOf (rowOfTile north tile) ≡ tile
+unfolding rowOfTile
 row-tile true tile h = refl
 row-tile false tile h = let g = h refl in rw (southern tile g) (omega arith)
 
 -- what is read of the letters, and in which hemisphere
-pub record Reads (zone : ℤ) (band k : ℕ) (north : Bool) (column tile : ℕ) : Type 0 where
+pub record Reads (zone : ℤ) (band : ℕ) (north : Bool) (column tile : ℕ) : Type 0 where
   pub side : northBand band ≡ north
-  pub block : blockOf zone band k (letterOfTile (columnsOf zone band) column) (rowLetter zone north tile) ≡ tilesOf column tile
+  pub block : blockOf zone band (letterOfTile (columnsOf zone band) column) (rowLetter zone north tile) ≡ tilesOf column tile
 
 -- the zones 1..60 are UTM's
 pub utm-grid : (z : ℕ) → 1 ≤ z → z ≤ 60 → gridOf (pos z) ≡ Utm
@@ -84,17 +86,17 @@ module _ (z band k : ℕ) (north : Bool) (column tile : ℕ) (least : 1 ≤ z) (
   unfolding rowsOf
   utm-rows side = rw (utm-grid z least most)
 
-  module _ (place : placeOf (bandsOf (pos z)) band ≡ At k) (fit : fits (pos z) band k north column tile ≡ true)
+  module _ (place : placeOf (bandsOf (pos z)) band ≡ At k) (fit : fits (pos z) band north column tile ≡ true)
       (from : 1 ≤ column) (to : column < 9) (south : north ≡ false → tile < 100) where
     -- the point's row is allowed for the band and the column
-    is-allowed : allowed (pos k -ℤ pos 10) (column - 1) (rowOf north tile) ≡ true
+    is-allowed : allowed (bandNumber band) (column - 1) (rowOfTile north tile) ≡ true
     unfolding fits utmFits
     is-allowed = rw (le-ltb z 1 least) at fit
 
     -- the band is of the point's hemisphere
     utm-side : northBand band ≡ north
     utm-side =
-        row-side (pos z) band k (column - 1) (rowOf north tile) (utm-grid z least most) place is-allowed ∙ tile-side north tile south
+        row-side (pos z) band k (column - 1) (rowOfTile north tile) (utm-grid z least most) place is-allowed ∙ tile-side north tile south
 
     -- where the two letters stand
     utm-column : placeOf (columnsOf (pos z) band) (letterOfTile (columnsOf (pos z) band) column) ≡ At (column - 1)
@@ -104,18 +106,18 @@ module _ (z band k : ℕ) (north : Bool) (column tile : ℕ) (least : 1 ≤ z) (
         let s = c .1 in
         tile-letter (columnsOf (pos z) band) column (record { least = omega arith; lt = omega arith }) ∙ ap (λ (x : ℕ). At (column - x)) f
 
-    utm-row : placeOf (rowsOf (pos z) (northBand band)) (rowLetter (pos z) north tile) ≡ At (letterOf (shiftOf (pos z)) (rowOf north tile))
+    utm-row : placeOf (rowsOf (pos z) (northBand band)) (rowLetter (pos z) north tile) ≡ At (letterOf (shiftOf (pos z)) (rowOfTile north tile))
     unfolding rowLetter
     utm-row =
         rw (le-ltb z 1 least, utm-rows (northBand band), utm-rows north)
-        (letter-found UtmRows (letterOf (shiftOf (pos z)) (rowOf north tile)) (letter-lt (shiftOf (pos z)) (rowOf north tile)))
+        (letter-found UtmRows (letterOf (shiftOf (pos z)) (rowOfTile north tile)) (letter-lt (shiftOf (pos z)) (rowOfTile north tile)))
 
     -- so resolution answers the point's row, and the block its tiles
-    pub utm-reads : Reads (pos z) band k north column tile
+    pub utm-reads : Reads (pos z) band north column tile
     unfolding blockOf utmBlock
     utm-reads =
         let s = shiftOf (pos z) in
-        let r = rowOf north tile in
+        let r = rowOfTile north tile in
         let e : firstTile (columnsOf (pos z) band) + (column - 1) ≡ column = omega (arith, utm-columns (pos z) band (utm-grid z least most) .0) in
         record {
           side = utm-side;
@@ -123,7 +125,7 @@ module _ (z band k : ℕ) (north : Bool) (column tile : ℕ) (least : 1 ≤ z) (
             utm-column,
             utm-row,
             le-ltb z 1 least,
-            found (pos k -ℤ pos 10) (column - 1) s (letterOf s r) r is-allowed refl,
+            found (bandNumber band) (column - 1) s (letterOf s r) r is-allowed refl,
             row-tile north tile south,
             e,
           );
@@ -136,7 +138,7 @@ in-half : (north east : Bool) (column : ℕ) → leb 20 column ≡ east → lowT
 in-half north true column e h g = record { least = leb-true 20 column e; lt = g }
 in-half north false column e h g = record { least = h; lt = leb-false 20 column e }
 
-module _ (band k : ℕ) (north : Bool) (column tile : ℕ) (place : placeOf (bandsOf (pos 0)) band ≡ At k) (fit : fits (pos 0) band k north column tile ≡ true)
+module _ (band k : ℕ) (north : Bool) (column tile : ℕ) (place : placeOf (bandsOf (pos 0)) band ≡ At k) (fit : fits (pos 0) band north column tile ≡ true)
     (from : lowTile north ≤ column) (to : column < highTile north) (low : lowTile north ≤ tile) (high : tile < highTile north) where
   -- "hemisphere and side agree"
   sides : (north ≡ northBand band) × (leb 20 column ≡ eastBand band)
@@ -161,7 +163,7 @@ module _ (band k : ℕ) (north : Bool) (column tile : ℕ) (place : placeOf (ban
   unfolding rowLetter
   ups-row = tile-letter (rowsOf (pos 0) north) tile row-in
 
-  pub ups-reads : Reads (pos 0) band k north column tile
+  pub ups-reads : Reads (pos 0) band north column tile
   unfolding blockOf
   ups-reads =
       record {

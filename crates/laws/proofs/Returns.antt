@@ -15,14 +15,15 @@ use Rattle.letters.specs.declared.Place.the-variants.{At, NotInSet}
 use Rattle.letters.proofs.Laws.{no-capital}
 use Rattle.position.specs.declared.Position.{Position}
 use Rattle.position.specs.Squares.{cornerOf, southWest}
-use Rattle.runs.specs.Runs.{allDigits}
-use Rattle.runs.proofs.Laws.{digit-range, all-head, all-tail}
+use Rattle.words.specs.Bytes.{allDigits}
+use Rattle.words.proofs.Laws.{digit-range, all-head, all-tail}
 use Rattle.reader.specs.declared.Answer.the-variants.{Square, Bare}
-use Rattle.reader.specs.Head.{letterIn}
-use Rattle.reader.specs.Bare.{bareOf}
+use Rattle.head.specs.Head.{letterIn}
+use Rattle.block.specs.Bare.{bareOf}
 use Rattle.reader.specs.Read.{squareOf, readOf}
-use Rattle.reader.proofs.Stages.{placed, squared, bared}
-use Rattle.reader.proofs.Sizes.{halved-by}
+use Rattle.block.proofs.Placed.{placed}
+use Rattle.reader.proofs.Stages.{squared, bared}
+use Rattle.runs.proofs.Halves.{halved-by}
 use Rattle.composer.specs.declared.Composed.the-variants.{Bare as BareText}
 use Rattle.writer.specs.Text.{headText}
 use Rattle.composer.specs.Compose.{madeOf}
@@ -91,7 +92,7 @@ square-returns s q e =
     let a = squared s q e in
     let h = a .head in
     let d = halved-by _ _ (a .is-digits) in
-    let w = placed _ _ _ _ _ _ (a .is-block) in
+    let w = placed _ _ _ _ _ (a .is-block) in
     let p = ap (λ (x : Position). x .p) (a .is) ∙ d .p in
     let t = told s q h (d .n) e (a .is-head) p in
     let v = short-writes s q h (d .n) (d .n) t (a .is-head) (omega arith) in
@@ -111,12 +112,12 @@ bare-returns s q e =
     let h = a .head in
     let b = head-place s h (a .is-head) in
     let o = bare-point _ _ _ b in
-    let c = from-tiles (h .zone) (h .band) (h .place) (o .e) (o .n) (negsuc 0) (o .easting .units) (o .northing .units) b p-bare (o .inside) (o .easting .tile) (o .northing .tile) in
+    let c = from-tiles (h .zone) (h .band) _ (o .e) (o .n) (negsuc 0) (o .easting .units) (o .northing .units) b p-bare (o .inside) (o .easting .tile) (o .northing .tile) in
     let t = bare-text (h .zone) (h .band) (restOf s h) (a .ends) in
     subst (λ (x : Position). Returns s x) (sym (a .is))
     (record {
       head = h;
       zone-and-band = a .is-head;
-      bytes = written (bareOf (h .zone) (h .band) (h .place)) (BareText (record { zone = h .zone; band = h .band })) (canonical s h)
+      bytes = written (bareOf (h .zone) (h .band)) (BareText (record { zone = h .zone; band = h .band })) (canonical s h)
           (rw (o .easting .is, o .northing .is) c) (λ m. rw t) (λ l. rw t);
     })

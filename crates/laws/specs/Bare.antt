@@ -5,10 +5,10 @@ use mathlib.Core.List.{List}
 use Prim.Native.Nat.{ℕ}
 use lib.ListN.{length}
 use Rattle.position.specs.declared.Position.{Position}
-use Rattle.reader.specs.declared.Head.{Head}
-use Rattle.reader.specs.declared.HeadAnswer.the-variants.{Start}
-use Rattle.reader.specs.Head.{headOf}
-use Rattle.reader.specs.Bare.{bareOf}
+use Rattle.head.specs.declared.Head.{Head}
+use Rattle.head.specs.declared.HeadAnswer.the-variants.{Start}
+use Rattle.head.specs.Head.{headOf}
+use Rattle.block.specs.Bare.{bareOf}
 use Rattle.laws.specs.Sound.{restOf}
 
 -- The text has a zone and a band, nothing after them, and the position is their point, of p = -1.
@@ -16,4 +16,4 @@ pub record Supplied (s : List ℕ) (q : Position) : Type 0 where
   pub head : Head
   pub zone-and-band : headOf s ≡ Start head
   pub ends : length (restOf s head) ≡ 0
-  pub point : q ≡ bareOf (head .zone) (head .band) (head .place)
+  pub point : q ≡ bareOf (head .zone) (head .band)

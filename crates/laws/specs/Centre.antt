@@ -7,12 +7,12 @@ use lib.IntN.{pos}
 use lib.ListN.{length, take, drop}
 use Rattle.runs.specs.Runs.{valueOf}
 use Rattle.position.specs.declared.Position.{Position}
-use Rattle.reader.specs.declared.Head.{Head}
-use Rattle.reader.specs.declared.HeadAnswer.the-variants.{Start}
-use Rattle.reader.specs.declared.Tiles.{Tiles}
-use Rattle.reader.specs.declared.BlockAnswer.the-variants.{Block}
-use Rattle.reader.specs.Head.{letterIn, headOf}
-use Rattle.reader.specs.Block.{blockOf}
+use Rattle.head.specs.declared.Head.{Head}
+use Rattle.head.specs.declared.HeadAnswer.the-variants.{Start}
+use Rattle.block.specs.declared.Tiles.{Tiles}
+use Rattle.block.specs.declared.BlockAnswer.the-variants.{Block}
+use Rattle.head.specs.Head.{letterIn, headOf}
+use Rattle.block.specs.Block.{blockOf}
 use Rattle.laws.specs.Sound.{restOf}
 
 -- N: p digits after a tile.
@@ -24,7 +24,7 @@ pub record Centred (s : List ℕ) (q : Position) : Type 0 where
   pub head : Head
   pub zone-and-band : headOf s ≡ Start head
   pub tiles : Tiles
-  pub block : blockOf (head .zone) (head .band) (head .place) (letterIn (restOf s head) 0) (letterIn (restOf s head) 1) ≡ Block tiles
+  pub block : blockOf (head .zone) (head .band) (letterIn (restOf s head) 0) (letterIn (restOf s head) 1) ≡ Block tiles
   pub p : ℕ
   pub precision : q .p ≡ pos p
   pub few : p ≤ 11

@@ -4,21 +4,23 @@ use mathlib.Core.Path.{_≡_}
 use mathlib.Core.Bool.{true, false}
 use mathlib.Core.List.{List}
 use Prim.Native.Nat.{ℕ, _+_, _≤_}
-use lib.IntN.{ℤ, pos, _-ℤ_}
+use lib.IntN.{ℤ, pos}
 use lib.Signed.{ltZ}
 use lib.ListN.{length, drop}
 use Rattle.letters.specs.declared.Place.the-variants.{At}
-use Rattle.letters.specs.Letters.{placeOf, firstTile}
-use Rattle.letters.specs.Sets.{columnsOf, rowsOf, northBand}
+use Rattle.letters.specs.Letters.{placeOf, firstTile, northBand}
+use Rattle.bands.specs.Bands.{bandNumber}
+use Rattle.columns.specs.Columns.{columnsOf}
+use Rattle.row_letters.specs.RowLetters.{rowsOf}
 use Rattle.rows.specs.Allowed.{allowed}
 use Rattle.rows.specs.Letters.{shiftOf, letterOf}
 use Rattle.position.specs.declared.Position.{Position}
-use Rattle.reader.specs.declared.Head.{Head}
-use Rattle.reader.specs.declared.HeadAnswer.the-variants.{Start}
+use Rattle.head.specs.declared.Head.{Head}
+use Rattle.head.specs.declared.HeadAnswer.the-variants.{Start}
 use Rattle.runs.specs.declared.Digits.{Digits}
 use Rattle.runs.specs.declared.DigitsAnswer.the-variants.{Halves}
 use Rattle.reader.specs.declared.Answer.the-variants.{Square}
-use Rattle.reader.specs.Head.{letterIn, headOf}
+use Rattle.head.specs.Head.{letterIn, headOf}
 use Rattle.runs.specs.Digits.{digitsOf}
 use Rattle.reader.specs.Read.{partsOf, squareOf, readOf}
 
@@ -45,10 +47,10 @@ Utm o = ltZ (o .head .zone) (pos 1) ≡ false
 abbrev pub Ups : {s : List ℕ} → Sound s → Type 0
 Ups o = ltZ (o .head .zone) (pos 1) ≡ true
 
--- "a 100 km row of that row letter is allowed for its band and column"; bands count from -10 for C.
+-- "a 100 km row of that row letter is allowed for its band and column".
 pub record HasRow {s : List ℕ} (o : Sound s) : Type 0 where
   pub r : ℤ
-  pub is-allowed : allowed (pos (o .head .place) -ℤ pos 10) (o .c) r ≡ true
+  pub is-allowed : allowed (bandNumber (o .head .band)) (o .c) r ≡ true
   pub has-letter : letterOf (shiftOf (o .head .zone)) r ≡ o .l
 
 -- "is accepted"

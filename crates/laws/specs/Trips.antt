@@ -7,26 +7,25 @@ use lib.IntN.{ℤ, pos, negsuc}
 use lib.ListN.{length, drop}
 use lib.Signed.{ltZ}
 use Rattle.whole.specs.Floor.{fold}
-use Rattle.letters.specs.Letters.{capitalOf, placeOf, byPlace}
-use Rattle.letters.specs.Sets.{bandsOf}
+use Rattle.letters.specs.Letters.{capitalOf}
 use Rattle.position.specs.declared.Position.{Position}
-use Rattle.position.specs.declared.Point.{Point}
-use Rattle.position.specs.declared.MgrsCheck.{MgrsCheck}
-use Rattle.position.specs.declared.MgrsCheck.the-variants.{Moved, Refused as OutOfRange}
-use Rattle.position.specs.Edges.{mgrsCheck}
+use Rattle.ranges.specs.declared.Point.{Point}
+use Rattle.ranges.specs.declared.MgrsCheck.{MgrsCheck}
+use Rattle.ranges.specs.declared.MgrsCheck.the-variants.{Moved, Refused as OutOfRange}
+use Rattle.ranges.specs.Edges.{mgrsCheck}
 use Rattle.position.specs.Squares.{centreOf, holds}
-use Rattle.reader.specs.declared.Head.{Head}
-use Rattle.reader.specs.declared.HeadAnswer.the-variants.{Start}
+use Rattle.head.specs.declared.Head.{Head}
+use Rattle.head.specs.declared.HeadAnswer.the-variants.{Start}
 use Rattle.reader.specs.declared.Answer.{Answer}
 use Rattle.reader.specs.declared.Answer.the-variants.{Square, Bare, Refused}
-use Rattle.reader.specs.Head.{headOf}
-use Rattle.reader.specs.Bare.{bareOf}
+use Rattle.head.specs.Head.{headOf}
+use Rattle.block.specs.Bare.{bareOf}
 use Rattle.composer.specs.declared.Composed.{Composed}
 use Rattle.composer.specs.declared.Composed.the-variants.{Full, Bare as BareText, Refused as NotComposed}
 use Rattle.writer.specs.declared.Written.{Written}
 use Rattle.writer.specs.declared.Written.the-variants.{Length}
 use Rattle.writer.specs.Text.{headText}
-use Rattle.position.specs.Ranges.{tileAt}
+use Rattle.position.specs.Units.{tileAt}
 use Rattle.composer.specs.Compose.{cutOf, composed}
 use Rattle.writer.specs.Write.{writeOf, writeLeaves}
 use Rattle.laws.specs.Sound.{restOf}
@@ -91,7 +90,7 @@ landed (Moved point) rest = rest point
 -- the point after the edge rules.
 abbrev pub backFrom : ℤ → Bool → ℕ → ℤ → ℤ → ℤ → Composed → Answer
 backFrom zone north band p e n (NotComposed k) = Refused k
-backFrom zone north band p e n (BareText z) = byPlace (placeOf (bandsOf zone) band) (Refused 18) (λ k. Bare (bareOf zone band k))
+backFrom zone north band p e n (BareText z) = Bare (bareOf zone band)
 backFrom zone north band p e n (Full parts) = landed (mgrsCheck zone north e n) (λ point. Square (squareAt zone band p point))
 
 unfoldable pub backOf : ℤ → Bool → ℕ → ℤ → ℤ → ℤ → Answer

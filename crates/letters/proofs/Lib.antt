@@ -1,6 +1,6 @@
 mod Sets
 pub mod Laws
-mod Runs
 pub mod Places
-pub mod ZoneNumber
+pub mod Confirm
+pub mod Stretches
 pub mod Unique

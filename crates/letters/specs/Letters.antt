@@ -1,9 +1,9 @@
 -- The letters of document 01, "Letters (source document 000)". Assumes nothing.
-use mathlib.Core.Bool.{cond}
+use mathlib.Core.Bool.{Bool, true, cond}
 use mathlib.Core.List.{List, [], _∷_}
 use Prim.Native.Nat.{ℕ, suc, _-_}
 use Prim.Native.Char.{code}
-use lib.Dec.{eqb, ltb}
+use lib.Dec.{eqb, leb, ltb}
 use lib.ListN.{getD}
 use Rattle.whole.specs.Text.{bytes}
 use Rattle.letters.specs.declared.Place.{Place}
@@ -79,3 +79,11 @@ firstTile UpsColumnsY = 13
 firstTile UpsColumnsZ = 20
 firstTile UpsRowsSouth = 8
 firstTile UpsRowsNorth = 13
+
+-- "north from N"; "A, B south; Y, Z north": the letters from N.
+abbrev pub northBand : ℕ → Bool
+northBand b = leb (code "N") b
+
+-- "B and Z east"
+unfoldable pub eastBand : ℕ → Bool
+eastBand b = cond (eqb b (code "B")) true (eqb b (code "Z"))

@@ -1,3 +1,3 @@
 pub mod Letters
-pub mod Sets
-pub mod Tables
+pub mod Search
+pub mod inner

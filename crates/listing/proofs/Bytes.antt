@@ -9,9 +9,11 @@ use borrow.Author.Tests.{lt-ltb, ltb-true}
 use lib.Dec.{ltb}
 use lib.ListN.{length, take, drop, set, length-take, length-drop, take-append-drop}
 use lib.Seq.{sets, take-all}
-use Rattle.runs.specs.Runs.{allDigits, lastDigits}
-use Rattle.runs.specs.Words.{allBytes, wordOf}
-use Rattle.runs.proofs.Laws.{and-left, and-right, digit-range, all-head, all-tail, all-rest}
+use Rattle.words.specs.Bytes.{allDigits}
+use Rattle.runs.specs.Runs.{lastDigits}
+use Rattle.words.specs.inner.Flags.{allBytes}
+use Rattle.words.specs.Words.{wordOf}
+use Rattle.words.proofs.Laws.{and-left, and-right, digit-range, all-head, all-tail, all-rest}
 use Rattle.runs.proofs.Decimals.{digits-length, digits-all}
 use Rattle.writer.proofs.Stores.{sets-append}
 

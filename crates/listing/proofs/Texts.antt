@@ -18,7 +18,7 @@ use Rattle.writer.specs.declared.Written.the-variants.{Length, Refused}
 use Rattle.writer.specs.Write.{fitOf, leavesOf}
 use Rattle.writer.proofs.Fit.{room, held, no-room, untouched}
 use Rattle.listing.specs.Numerals.{decimal, signed}
-use Rattle.listing.specs.Listing.{field, letter, sideOf, zoneText, unitsText, refusalText}
+use Rattle.listing.specs.Listing.{field, letter, sideLetter, zoneText, unitsText, refusalText}
 
 -- ---- signed numbers
 
@@ -44,7 +44,7 @@ module _ (q : Position) (t a b c d : List ℕ) where
   unfolding unitsText
   units-made ea eb ec ed = rw (ed, ec, eb, ea) (simp append-assoc)
 
-  pub zone-made : (n : ℕ) → a ≡ letter (q .band) ++ t → b ≡ letter (sideOf (q .north)) ++ a → c ≡ field (signed (q .zone)) ++ b → d ≡ decimal n ++ c
+  pub zone-made : (n : ℕ) → a ≡ letter (q .band) ++ t → b ≡ letter (sideLetter (q .north)) ++ a → c ≡ field (signed (q .zone)) ++ b → d ≡ decimal n ++ c
       → d ≡ zoneText n q ++ t
   unfolding zoneText
   zone-made n ea eb ec ed = rw (ed, ec, eb, ea) (simp append-assoc)

@@ -23,12 +23,12 @@ abbrev pub lineFeed : List ℕ
 lineFeed = 10 ∷ []
 
 -- "N or S"
-abbrev pub sideOf : Bool → ℕ
-sideOf north = cond north (code "N") (code "S")
+abbrev pub sideLetter : Bool → ℕ
+sideLetter north = cond north (code "N") (code "S")
 
 -- "line number, zone, N or S, band ..
 unfoldable pub zoneText : ℕ → Position → List ℕ
-zoneText number q = decimal number ++ (field (signed (q .zone)) ++ (letter (sideOf (q .north)) ++ letter (q .band)))
+zoneText number q = decimal number ++ (field (signed (q .zone)) ++ (letter (sideLetter (q .north)) ++ letter (q .band)))
 
 -- .. p, easting units, northing units"
 unfoldable pub unitsText : Position → List ℕ

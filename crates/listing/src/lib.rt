@@ -9,7 +9,7 @@ ghost use lib.ListN.{length, drop};
 ghost use lib.Seq.{sets};
 ghost use Rattle.runs.specs.Runs.{lastDigits};
 ghost use Rattle.listing.specs.Numerals.{decimal, signed};
-ghost use Rattle.listing.specs.Listing.{sideOf, field, letter, answerOf, zoneText, unitsText, refusalText, textOf, lineOf};
+ghost use Rattle.listing.specs.Listing.{sideLetter, field, letter, answerOf, zoneText, unitsText, refusalText, textOf, lineOf};
 ghost use Rattle.writer.specs.Write.{fitOf, leavesOf};
 
 // A line is made from its end to its start, so that no number has to be counted before it is written; `at` is where its
@@ -106,7 +106,7 @@ fn put_letter(line: &mut [u8], at: usize, b: u8) -> usize
 }
 
 fn side_of(north: bool) -> u8
-    ensures { λ r. ⌜ r ≡ sideOf north ⌝ }
+    ensures { λ r. ⌜ r ≡ sideLetter north ⌝ }
 {
     if north {
         return b'N';

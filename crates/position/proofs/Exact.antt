@@ -11,7 +11,7 @@ use lib.Ieee.{binary64, inFloat, ofInt, ofBits}
 use lib.Signed.{ltZ}
 use Rattle.whole.proofs.Parts.{up, dn, lt-yes, lt-no, clash}
 use Rattle.whole.proofs.Small.{Small}
-use Rattle.position.specs.Metres.{exact}
+use Rattle.position.specs.inner.Counts.{exact}
 
 -- every count of a position in range is far below this
 abbrev pub Exactly : ℤ → Type 0

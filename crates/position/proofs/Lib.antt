@@ -1,7 +1,3 @@
-mod Bounds
-pub mod Edges
-pub mod Reach
-pub mod Stays
 pub mod Squares
 pub mod Exact
 pub mod Unique

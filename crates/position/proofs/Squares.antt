@@ -10,7 +10,8 @@ use lib.IntN.{ℤ, pos, negsuc}
 use mir.Facts.{and-yes}
 use Rattle.whole.proofs.Parts.{up, dn, clash, T-true, eq-by, sub-parts}
 use Rattle.whole.proofs.Powers.{ten-pos, ten-split, ten-le}
-use Rattle.position.specs.Squares.{countOf, halfOf, sideLength, numberOf, centre, centreOf, cornerOf, holds}
+use Rattle.position.specs.inner.Counts.{countOf}
+use Rattle.position.specs.Squares.{halfOf, sideLength, numberOf, centre, centreOf, cornerOf, holds}
 
 -- half a side, by p
 pub half-is : (n : ℕ) → n ≤ 11 → halfOf (pos n) ≡ 10 ^ (11 - n)

@@ -4,28 +4,14 @@ use mathlib.Core.Path.{_≡_, sym, _∙_}
 use contract.Lifetimes.{Lfts}
 use borrow.Fn.World.{ArgsD, ResD}
 use denote.Triple.Clauses.{AtExit}
-use Rattle.position.proofs.utm_check_coords as utm-check-coords
-use Rattle.position.proofs.utm_check_coords.Reads as utm-check-coords-reads
-use Rattle.position.proofs.mgrs_check_coords as mgrs-check-coords
-use Rattle.position.proofs.mgrs_check_coords.Reads as mgrs-check-coords-reads
 use Rattle.position.proofs.half_of as half-of
 use Rattle.position.proofs.half_of.Reads as half-of-reads
 use Rattle.position.proofs.side_length as side-length
 use Rattle.position.proofs.side_length.Reads as side-length-reads
-use Rattle.position.proofs.centre_of as centre-of
-use Rattle.position.proofs.centre_of.Reads as centre-of-reads
 use Rattle.position.proofs.corner_of as corner-of
 use Rattle.position.proofs.corner_of.Reads as corner-of-reads
 use Rattle.position.proofs.south_west as south-west
 use Rattle.position.proofs.south_west.Reads as south-west-reads
-use Rattle.position.proofs.metres_of as metres-of
-use Rattle.position.proofs.metres_of.Reads as metres-of-reads
-
-pub utm-check-coords-unique : (κs : Lfts 0) (a : ArgsD utm-check-coords.signature κs) (r r′ : ResD utm-check-coords.signature κs) (s s′ : AtExit utm-check-coords.ended κs) → utm-check-coords-reads.Post κs a r s → utm-check-coords-reads.Post κs a r′ s′ → r ≡ r′
-utm-check-coords-unique κs a r r′ s s′ p q = p ∙ sym q
-
-pub mgrs-check-coords-unique : (κs : Lfts 0) (a : ArgsD mgrs-check-coords.signature κs) (r r′ : ResD mgrs-check-coords.signature κs) (s s′ : AtExit mgrs-check-coords.ended κs) → mgrs-check-coords-reads.Post κs a r s → mgrs-check-coords-reads.Post κs a r′ s′ → r ≡ r′
-mgrs-check-coords-unique κs a r r′ s s′ p q = p ∙ sym q
 
 pub half-of-unique : (κs : Lfts 0) (a : ArgsD half-of.signature κs) (r r′ : ResD half-of.signature κs) (s s′ : AtExit half-of.ended κs) → half-of-reads.Post κs a r s → half-of-reads.Post κs a r′ s′ → r ≡ r′
 half-of-unique κs a r r′ s s′ p q = p ∙ sym q
@@ -33,14 +19,8 @@ half-of-unique κs a r r′ s s′ p q = p ∙ sym q
 pub side-length-unique : (κs : Lfts 0) (a : ArgsD side-length.signature κs) (r r′ : ResD side-length.signature κs) (s s′ : AtExit side-length.ended κs) → side-length-reads.Post κs a r s → side-length-reads.Post κs a r′ s′ → r ≡ r′
 side-length-unique κs a r r′ s s′ p q = p ∙ sym q
 
-pub centre-of-unique : (κs : Lfts 0) (a : ArgsD centre-of.signature κs) (r r′ : ResD centre-of.signature κs) (s s′ : AtExit centre-of.ended κs) → centre-of-reads.Post κs a r s → centre-of-reads.Post κs a r′ s′ → r ≡ r′
-centre-of-unique κs a r r′ s s′ p q = p ∙ sym q
-
 pub corner-of-unique : (κs : Lfts 0) (a : ArgsD corner-of.signature κs) (r r′ : ResD corner-of.signature κs) (s s′ : AtExit corner-of.ended κs) → corner-of-reads.Post κs a r s → corner-of-reads.Post κs a r′ s′ → r ≡ r′
 corner-of-unique κs a r r′ s s′ p q = p ∙ sym q
 
 pub south-west-unique : (κs : Lfts 0) (a : ArgsD south-west.signature κs) (r r′ : ResD south-west.signature κs) (s s′ : AtExit south-west.ended κs) → south-west-reads.Post κs a r s → south-west-reads.Post κs a r′ s′ → r ≡ r′
 south-west-unique κs a r r′ s s′ p q = p ∙ sym q
-
-pub metres-of-unique : (κs : Lfts 0) (a : ArgsD metres-of.signature κs) (r r′ : ResD metres-of.signature κs) (s s′ : AtExit metres-of.ended κs) → metres-of-reads.Post κs a r s → metres-of-reads.Post κs a r′ s′ → r ≡ r′
-metres-of-unique κs a r r′ s s′ p q = p ∙ sym q

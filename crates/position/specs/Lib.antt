@@ -1,4 +1,4 @@
-pub mod Ranges
-pub mod Edges
+pub mod Units
 pub mod Squares
 pub mod Metres
+pub mod inner

@@ -6,11 +6,6 @@ use lib.IntN.{ℤ, pos, negsuc, _+ℤ_, _-ℤ_}
 use lib.Signed.{ltZ, leZ}
 use Rattle.position.specs.declared.Position.{Position}
 
--- "Precision p is digits per axis, 0 to 11; -1 means bare zone": p as a count, 12 where it is none.
-unfoldable pub countOf : ℤ → ℕ
-countOf (pos p) = cond (ltb 11 p) 12 p
-countOf (negsuc n) = 12
-
 -- "The corner is 10^(11-p) units less" than the centre: half a side. 0 for a bare zone, p = -1, and for p outside 0..11.
 unfoldable pub halfOf : ℤ → ℕ
 halfOf (pos p) = cond (ltb 11 p) 0 (10 ^ (11 - p))

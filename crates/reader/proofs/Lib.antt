@@ -1,4 +1,3 @@
-pub mod Bounds
 pub mod Stages
 pub mod Sizes
 pub mod Unique

@@ -1,5 +1,2 @@
-pub mod Head
-pub mod Bare
-pub mod Block
 pub mod Read
 pub mod Metres

@@ -6,24 +6,24 @@ use Prim.Native.Nat.{ℕ}
 use lib.Dec.{eqb}
 use lib.IntN.{ℤ, pos}
 use lib.ListN.{length, drop}
-use Rattle.letters.specs.Sets.{northBand}
+use Rattle.letters.specs.Letters.{northBand}
 use Rattle.position.specs.declared.Position.{Position}
 use Rattle.position.specs.Squares.{centreOf}
-use Rattle.reader.specs.declared.Head.{Head}
-use Rattle.reader.specs.declared.HeadAnswer.{HeadAnswer}
-use Rattle.reader.specs.declared.HeadAnswer.the-variants.{Start, NoStart}
-use Rattle.reader.specs.declared.Tiles.{Tiles}
-use Rattle.reader.specs.declared.BlockAnswer.{BlockAnswer}
-use Rattle.reader.specs.declared.BlockAnswer.the-variants.{Block, NoBlock}
+use Rattle.head.specs.declared.Head.{Head}
+use Rattle.head.specs.declared.HeadAnswer.{HeadAnswer}
+use Rattle.head.specs.declared.HeadAnswer.the-variants.{Start, NoStart}
+use Rattle.block.specs.declared.Tiles.{Tiles}
+use Rattle.block.specs.declared.BlockAnswer.{BlockAnswer}
+use Rattle.block.specs.declared.BlockAnswer.the-variants.{Block, NoBlock}
 use Rattle.runs.specs.declared.Digits.{Digits}
 use Rattle.runs.specs.declared.DigitsAnswer.{DigitsAnswer}
 use Rattle.runs.specs.declared.DigitsAnswer.the-variants.{Halves, NoHalves}
 use Rattle.position.specs.declared.Parts.{Parts}
 use Rattle.reader.specs.declared.Answer.{Answer}
 use Rattle.reader.specs.declared.Answer.the-variants.{Square, Bare, Refused}
-use Rattle.reader.specs.Head.{letterIn, headOf}
-use Rattle.reader.specs.Bare.{bareOf}
-use Rattle.reader.specs.Block.{blockOf}
+use Rattle.head.specs.Head.{letterIn, headOf}
+use Rattle.block.specs.Bare.{bareOf}
+use Rattle.block.specs.Block.{blockOf}
 use Rattle.runs.specs.Digits.{digitsOf}
 
 -- The parts of a full reference.
@@ -63,20 +63,20 @@ halved (NoHalves n) rest = Refused n
 halved (Halves d) rest = rest d
 
 -- From the column letter on: the block before the digits.
-unfoldable pub fullOf : ℤ → ℕ → ℕ → List ℕ → Answer
-fullOf zone band k rest =
+unfoldable pub fullOf : ℤ → ℕ → List ℕ → Answer
+fullOf zone band rest =
     let column = letterIn rest 0 in
     let row = letterIn rest 1 in
-    blocked (blockOf zone band k column row)
+    blocked (blockOf zone band column row)
     (λ tiles. halved (digitsOf (drop 2 rest))
     (λ d. Square (squareOf (partsOf zone band column row d) tiles)))
 
 -- What follows the band: "A text that ends at the band is a bare zone (tested after 6)"; "exactly one byte follows the band".
-unfoldable pub tailOf : ℤ → ℕ → ℕ → List ℕ → Answer
-tailOf zone band k rest =
-    cond (eqb (length rest) 0) (Bare (bareOf zone band k))
+unfoldable pub tailOf : ℤ → ℕ → List ℕ → Answer
+tailOf zone band rest =
+    cond (eqb (length rest) 0) (Bare (bareOf zone band))
     (cond (eqb (length rest) 1) (Refused 7)
-    (fullOf zone band k rest))
+    (fullOf zone band rest))
 
 unfoldable pub readOf : List ℕ → Answer
-readOf s = begun (headOf s) (λ head. tailOf (head .zone) (head .band) (head .place) (drop (head .next) s))
+readOf s = begun (headOf s) (λ head. tailOf (head .zone) (head .band) (drop (head .next) s))

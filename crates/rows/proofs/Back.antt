@@ -14,8 +14,9 @@ use Rattle.whole.proofs.Floor.{floorMod-lt, mod-parts}
 use Rattle.whole.proofs.Signed.{is-count}
 use Rattle.whole.proofs.Small.{Small, fits, count, sum, difference, remainder}
 use Rattle.rows.specs.declared.Limits.{Limits}
-use Rattle.rows.specs.Limits.{limitsOf, lowest}
-use Rattle.rows.specs.Direct.{candidateFrom}
+use Rattle.rows.specs.Limits.{limitsOf}
+use Rattle.rows.specs.inner.Direct.{candidateFrom}
+use Rattle.rows.proofs.Direct.{lowest}
 use Rattle.rows.proofs.Near.{limits-ranged}
 
 pub low-back : (b : ℤ) (l : Limits) → l ≡ limitsOf b → toZ w64 (ofZ w64 (l .low)) ≡ lowest b

@@ -1,3 +1,4 @@
+pub mod Direct
 pub mod Near
 pub mod Period
 pub mod First

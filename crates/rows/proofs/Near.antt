@@ -15,7 +15,8 @@ use Rattle.whole.proofs.Parts.{up, dn, le-of, add-parts}
 use Rattle.whole.proofs.Small.{Small, computed}
 use Rattle.whole.proofs.Table.{all, each}
 use Rattle.rows.specs.declared.Limits.{Limits}
-use Rattle.rows.specs.Limits.{limitsOf, lowest, highest, northern, noRows}
+use Rattle.rows.specs.Limits.{limitsOf, northern, noRows}
+use Rattle.rows.proofs.Direct.{lowest, highest}
 use Rattle.rows.specs.Allowed.{between, sameSign, foldedCase, folded, foldColumn, allowed}
 
 -- past the tenth band there are no limits

@@ -9,9 +9,8 @@ use lib.IntN.{ℤ, pos, _+ℤ_, _-ℤ_}
 use Rattle.whole.specs.Floor.{floorDiv, floorMod}
 use Rattle.whole.proofs.Parts.{up, dn, eq-by, add-parts, sub-parts}
 use Rattle.whole.proofs.Floor.{floorMod-lt, mod-parts}
-use Rattle.rows.specs.Limits.{lowest}
+use Rattle.rows.proofs.Direct.{lowest, base, candidate, unshifted}
 use Rattle.rows.specs.Letters.{letterOf}
-use Rattle.rows.specs.Direct.{base, candidate, unshifted}
 use Rattle.rows.proofs.Near.{Placed}
 
 -- a letter's place is one of twenty

@@ -17,7 +17,7 @@ use Rattle.rows.specs.declared.RowAnswer.the-variants.{Row, Nothing}
 use Rattle.rows.specs.Allowed.{allowed, sameSign}
 use Rattle.rows.specs.Letters.{letterOf}
 use Rattle.rows.specs.Resolve.{means, resolve}
-use Rattle.rows.specs.Direct.{candidate, unshifted}
+use Rattle.rows.proofs.Direct.{candidate, unshifted}
 use Rattle.rows.proofs.Near.{allowed-placed}
 use Rattle.rows.proofs.Period.{letter-lt, same-row, same-test, candidate-is, is-candidate}
 use Rattle.rows.proofs.First.{first-same, first-none, first-sound, first-is}

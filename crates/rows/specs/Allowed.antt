@@ -41,7 +41,3 @@ folded b c r = sameSign b r && foldedCase (fold r) (fold b) (foldColumn c)
 -- A row that a band and a column index allow; columns are 0..7.
 unfoldable pub allowed : ℤ → ℕ → ℤ → Bool
 allowed b c r = leb c 7 && (within b r || folded b c r)
-
--- The same where the band's limits are at hand.
-abbrev pub allowedBy : Limits → ℤ → ℕ → ℤ → Bool
-allowedBy l b c r = leb c 7 && (between l r || folded b c r)

@@ -2,4 +2,4 @@ pub mod Limits
 pub mod Allowed
 pub mod Letters
 pub mod Resolve
-pub mod Direct
+pub mod inner

@@ -6,7 +6,6 @@ use lib.Dec.{eqb}
 use lib.IntN.{ℤ, pos, negsuc}
 use lib.ListN.{getD}
 use Rattle.rows.specs.declared.Limits.{Limits}
-use Rattle.rows.specs.declared.Pair.{Pair}
 
 -- Two rows, l-h.
 abbrev pub l-h : ℕ → ℕ → Limits
@@ -43,13 +42,3 @@ mirrored l = record { low = mirror (l .high); high = mirror (l .low) }
 unfoldable pub limitsOf : ℤ → Limits
 limitsOf (pos b) = getD northern b noRows
 limitsOf (negsuc b) = cond (eqb b 9) (record { low = negsuc 89; high = negsuc 80 }) (mirrored (getD northern b noRows))
-
-abbrev pub lowest : ℤ → ℤ
-lowest b = limitsOf b .low
-
-abbrev pub highest : ℤ → ℤ
-highest b = limitsOf b .high
-
--- Limits as the program's table holds them, a byte each.
-abbrev pub pairOf : Limits → Pair
-pairOf l = record { low = l .low; high = l .high }

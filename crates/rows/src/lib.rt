@@ -3,11 +3,11 @@ ghost use mathlib.Core.Path.{_≡_};
 ghost use Prim.Native.Nat.{_<_, _%_};
 ghost use lib.IntN.{pos, negsuc, _-ℤ_};
 ghost use lib.Signed.{_≤ℤ_};
-ghost use Rattle.rows.specs.Limits.{pairOf, limitsOf};
-ghost use Rattle.rows.specs.Allowed.{foldColumn, sameSign, foldedCase, between, folded, allowedBy, allowed};
+ghost use Rattle.rows.specs.inner.Direct.{pairOf, allowedBy, candidateFrom};
+ghost use Rattle.rows.specs.Limits.{limitsOf};
+ghost use Rattle.rows.specs.Allowed.{foldColumn, sameSign, foldedCase, between, folded, allowed};
 ghost use Rattle.rows.specs.Letters.{shiftOf, letterOf};
 ghost use Rattle.rows.specs.Resolve.{resolve};
-ghost use Rattle.rows.specs.Direct.{candidateFrom};
 
 // The lowest and the highest row of a band.
 pub struct Limits {

@@ -8,8 +8,9 @@ use native.Mathlib.Omega.{arith}
 use borrow.Author.Tests.{lt-leb, le-leb, le-ltb}
 use lib.ListN.{length, take, length-append}
 use lib.Seq.{take-all, take-append-le}
-use Rattle.runs.specs.Runs.{hasHigh, isDigit, allDigits, valueFrom, valueOf, leadingDigits, lastDigits}
-use Rattle.runs.proofs.Laws.{and-left, and-right, digit-range, all-head, all-tail}
+use Rattle.words.specs.Bytes.{hasHigh, isDigit, allDigits}
+use Rattle.runs.specs.Runs.{valueFrom, valueOf, leadingDigits, lastDigits}
+use Rattle.words.proofs.Laws.{and-left, and-right, digit-range, all-head, all-tail}
 
 pub digits-length : (n x : ℕ) → length (lastDigits n x) ≡ n
 unfolding lastDigits

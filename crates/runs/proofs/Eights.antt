@@ -11,11 +11,15 @@ use lib.ListN.{length, getD, take, drop, length-take, length-drop}
 use lib.Seq.{take-all, take-take, take-add}
 use Rattle.whole.proofs.Table.{alike}
 use Rattle.whole.proofs.Powers.{ten-le}
-use Rattle.runs.specs.Runs.{isDigit, allDigits, valueFrom, valueOf}
-use Rattle.runs.specs.Words.{wordOf, repeated, eightOf}
-use Rattle.runs.proofs.Laws.{digit-range, digit-at, all-head, all-tail, all-front, all-rest, number-lt}
-use Rattle.runs.proofs.High.{drop-take}
-use Rattle.runs.proofs.Words.{eight-are}
+use Rattle.words.specs.Bytes.{isDigit, allDigits}
+use Rattle.runs.specs.Runs.{valueFrom, valueOf}
+use Rattle.words.specs.Words.{wordOf}
+use Rattle.words.specs.inner.Flags.{repeated}
+use Rattle.runs.specs.inner.Eight.{eightOf}
+use Rattle.words.proofs.Laws.{digit-range, digit-at, all-head, all-tail, all-front, all-rest}
+use Rattle.runs.proofs.Laws.{number-lt}
+use Rattle.words.proofs.High.{drop-take}
+use Rattle.words.proofs.Words.{eight-are}
 use Rattle.runs.proofs.Decimals.{value-append}
 
 -- ---- two bytes under a mask: the lower one stays. The same of twice as many bits

@@ -1,6 +1,5 @@
 pub mod Laws
-mod High
-pub mod Words
+pub mod Halves
 pub mod Eights
 pub mod Decimals
 pub mod Unique

@@ -8,11 +8,8 @@ use lib.ListN.{length, take, drop}
 use Rattle.runs.specs.declared.Digits.{Digits}
 use Rattle.runs.specs.declared.DigitsAnswer.{DigitsAnswer}
 use Rattle.runs.specs.declared.DigitsAnswer.the-variants.{Halves, NoHalves}
-use Rattle.runs.specs.Runs.{allDigits, valueOf}
-
--- What two halves of one length spell.
-abbrev pub halvesOf : List ℕ → List ℕ → Digits
-halvesOf a b = record { p = pos (length a); easting = valueOf a; northing = valueOf b }
+use Rattle.words.specs.Bytes.{allDigits}
+use Rattle.runs.specs.Runs.{valueOf}
 
 -- "Otherwise the digits halve into easting and northing"
 unfoldable pub digitsOf : List ℕ → DigitsAnswer

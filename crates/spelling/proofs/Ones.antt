@@ -9,9 +9,10 @@ use lib.Bits.{bitAnd, and-block, and-mask, and-zero-l}
 use lib.Dec.{lit<}
 use lib.ListN.{length, getD}
 use lib.Seq.{take-all}
-use Rattle.runs.specs.Runs.{allDigits, valueFrom, valueOf, lastDigits}
-use Rattle.runs.specs.Words.{wordOf}
-use Rattle.runs.proofs.Words.{eight-are}
+use Rattle.words.specs.Bytes.{allDigits}
+use Rattle.runs.specs.Runs.{valueFrom, valueOf, lastDigits}
+use Rattle.words.specs.Words.{wordOf}
+use Rattle.words.proofs.Words.{eight-are}
 use Rattle.runs.proofs.Eights.{offOf, off-is, nine}
 use Rattle.runs.proofs.Decimals.{digits-length, digits-all, digits-value, digits-mod}
 

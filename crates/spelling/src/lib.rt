@@ -1,7 +1,7 @@
 // Digits to be written, eight at a time.
 ghost use mathlib.Core.Path.{_≡_};
 ghost use Rattle.runs.specs.Runs.{lastDigits};
-ghost use Rattle.runs.specs.Words.{wordOf};
+ghost use Rattle.words.specs.Words.{wordOf};
 
 // The last eight digits of a number, zeros in front, as one number of eight bytes, the first the lowest: parted by fours, twos and
 // ones, each step for all of them. A product by 10,486 and a shift is a division by 100 below 10,000; by 103, one by 10 below 100.

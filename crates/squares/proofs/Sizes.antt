@@ -10,7 +10,7 @@ use mir.Syntax.{w64}
 use mir.Val.{SFits}
 use Rattle.whole.proofs.Parts.{up, dn, clash, lt-yes, lt-no}
 use Rattle.whole.proofs.Small.{Small, fits, computed, count, sum, difference}
-use Rattle.position.specs.Metres.{exact}
+use Rattle.position.specs.inner.Counts.{exact}
 use Rattle.position.specs.Squares.{halfOf, sideLength, cornerOf}
 use Rattle.position.proofs.Squares.{half-le}
 

@@ -29,19 +29,19 @@ unfoldable pub squareWithin : Position → Position → Bool
 squareWithin a b =
     axisWithin (a .p) (a .easting) (b .p) (b .easting) && axisWithin (a .p) (a .northing) (b .p) (b .northing)
 
-abbrev pub verdict : Bool → Covering
-verdict t = cond t Covers DoesNot
+abbrev pub coversIf : Bool → Covering
+coversIf t = cond t Covers DoesNot
 
 -- "A covers B exactly if zone and band are equal and either A is bare or both are full and B's square lies within A's."
 -- "A is read first; refusals are those of reading."
 abbrev pub covering : Answer → Answer → Covering
 covering (NotRead k) b = Refused k
 covering (Bare a) (NotRead k) = Refused k
-covering (Bare a) (Bare b) = verdict (sameArea a b)
-covering (Bare a) (Square b) = verdict (sameArea a b)
+covering (Bare a) (Bare b) = coversIf (sameArea a b)
+covering (Bare a) (Square b) = coversIf (sameArea a b)
 covering (Square a) (NotRead k) = Refused k
 covering (Square a) (Bare b) = DoesNot
-covering (Square a) (Square b) = verdict (sameArea a b && squareWithin a b)
+covering (Square a) (Square b) = coversIf (sameArea a b && squareWithin a b)
 
 unfoldable pub coversOf : List ℕ → List ℕ → Covering
 coversOf a b = covering (readOf a) (readOf b)

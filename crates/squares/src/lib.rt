@@ -7,10 +7,10 @@ ghost use mathlib.Core.Bool.{true, _&&_};
 ghost use lib.Dec.{eqb};
 ghost use lib.ListN.{length};
 ghost use Rattle.whole.specs.Compare.{same};
-ghost use Rattle.position.specs.Metres.{exact};
+ghost use Rattle.position.specs.inner.Counts.{exact};
 ghost use Rattle.reader.specs.declared.Answer.the-variants.{Square};
 ghost use Rattle.squares.specs.Shorten.{shortened, shortLeft, shortOf, shortLeaves};
-ghost use Rattle.squares.specs.Covers.{sameArea, axisWithin, squareWithin, verdict, coversOf};
+ghost use Rattle.squares.specs.Covers.{sameArea, axisWithin, squareWithin, coversIf, coversOf};
 
 // ---- shortening
 
@@ -103,7 +103,7 @@ fn is_covering(a: Position, b: Position) -> bool
 }
 
 fn verdict_of(yes: bool) -> Covering
-    ensures { λ r. ⌜ r ≡ verdict yes ⌝ }
+    ensures { λ r. ⌜ r ≡ coversIf yes ⌝ }
 {
     if yes {
         return Covering::Covers;

@@ -10,6 +10,7 @@ use lib.ListN.{length, drop}
 use Rattle.whole.proofs.Parts.{clash}
 use Rattle.writer.specs.declared.Written.the-variants.{Length, Refused}
 use Rattle.writer.specs.Write.{fitOf, leavesOf}
+use Rattle.writer.specs.Stays.{Stays}
 
 -- a text that has room is answered by its length
 pub room : (t : List ℕ) (m : ℕ) → length t ≤ m → fitOf t m ≡ Length (length t)
@@ -39,3 +40,16 @@ fitted-by t m k false e x = let s : length t ≡ k = cc in (sym s, omega (arith,
 pub fitted : (t : List ℕ) (m k : ℕ) → fitOf t m ≡ Length k → (k ≡ length t) × (k ≤ m)
 unfolding fitOf
 fitted t m k x = fitted-by t m k (ltb m (length t)) refl x
+
+-- ---- a refusal alters nothing
+
+-- where the answer and what is left are chosen by one test, it is enough that each branch alters nothing on a refusal
+pub stays : {A B : Type 0} (refused : ℕ → A) (before : B) (t : Bool) (x y : A) (u v : B)
+    → Stays refused x before u → Stays refused y before v → Stays refused (cond t x y) before (cond t u v)
+stays refused before true x y u v p q = p
+stays refused before false x y u v p q = q
+
+-- so for every text, whatever the buffer
+pub fit-stays : (t l : List ℕ) → Stays Refused (fitOf t (length l)) l (leavesOf t l)
+unfolding fitOf leavesOf
+fit-stays t l = stays Refused l (ltb (length l) (length t)) _ _ _ _ (λ k e. refl) (λ k e. clash (cc))

@@ -14,7 +14,8 @@ use Rattle.runs.specs.Runs.{lastDigits}
 use Rattle.runs.proofs.Decimals.{digits-length}
 use Rattle.position.specs.declared.Parts.{Parts}
 use Rattle.writer.specs.declared.Written.the-variants.{Length, Refused}
-use Rattle.writer.specs.Text.{headText, headLength, blockText, fullText}
+use Rattle.writer.specs.Text.{headText, blockText, fullText}
+use Rattle.writer.specs.inner.Lengths.{headLength}
 use Rattle.writer.specs.Write.{fitOf, leavesOf}
 use Rattle.writer.proofs.Fit.{room, held, no-room, untouched}
 

@@ -1,2 +1,4 @@
 pub mod Text
 pub mod Write
+pub mod Stays
+pub mod inner

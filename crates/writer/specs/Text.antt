@@ -12,10 +12,6 @@ use Rattle.position.specs.declared.Parts.{Parts}
 unfoldable pub headText : ℤ → ℕ → List ℕ
 headText zone band = cond (ltZ zone (pos 1)) (band ∷ []) (lastDigits 2 (fold zone) ++ (band ∷ []))
 
--- "Length: .. bare 3 and 1"
-unfoldable pub headLength : ℤ → ℕ
-headLength zone = cond (ltZ zone (pos 1)) 1 3
-
 -- The column letter, the row letter and p digits of each axis; p is not negative here.
 unfoldable pub blockText : Parts → List ℕ
 blockText parts =

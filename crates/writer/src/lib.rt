@@ -7,7 +7,8 @@ ghost use lib.ListN.{length};
 ghost use lib.Seq.{sets};
 ghost use Rattle.whole.specs.Floor.{fold};
 ghost use Rattle.runs.specs.Runs.{lastDigits};
-ghost use Rattle.writer.specs.Text.{headText, headLength, blockText, fullText};
+ghost use Rattle.writer.specs.Text.{headText, blockText, fullText};
+ghost use Rattle.writer.specs.inner.Lengths.{headLength};
 ghost use Rattle.writer.specs.Write.{fitOf, leavesOf, writeOf, writeLeaves};
 
 // The last `count` digits of a number, from a place on; the last two of them first.

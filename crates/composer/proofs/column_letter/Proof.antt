@@ -5,7 +5,7 @@ use mir.Facts.{toZ-ofZ}
 use borrow.Author.Needs.{needs}
 use borrow.Author.Tests.{lt-ltb, le-ltb}
 use Rattle.letters.specs.Letters.{firstTile}
-use Rattle.letters.specs.Sets.{columnsOf}
+use Rattle.columns.specs.Columns.{columnsOf}
 use Rattle.composer.specs.Compose.{letterOfTile}
 use Rattle.composer.proofs.column_letter.Statement.{statement}
 use Rattle.composer.proofs.column_letter.Tie as tie
@@ -13,15 +13,9 @@ use Rattle.composer.proofs.column_letter.Tie as tie
 first : (c : tie.After-first-column) → c .first-column .result ≡ firstTile (columnsOf (c .before .args .zone) (c .before .args .band))
 first c = rw (toZ-ofZ (c .before .fits .zone)) at (c .first-column .ensures)
 
-first-column-requires : tie.Need-first-column-requires
-first-column-requires c κs = search needs
-
 returns : tie.Need-returns
 unfolding letterOfTile
 returns c = let h = rw (first (c .before)) at (c .if1 .taken) in rw (lt-ltb _ _ h)
-
-column-letter-requires : tie.Need-column-letter-requires
-column-letter-requires c κs = search needs
 
 returns-2 : tie.Need-returns-2
 unfolding letterOfTile
@@ -33,4 +27,4 @@ returns-2 c =
     rw (le-ltb _ _ h, l)
 
 pub column-letter-spec : {M : Type 1} → statement M
-column-letter-spec = tie.close (tie.spec first-column-requires returns column-letter-requires returns-2)
+column-letter-spec = tie.close (tie.spec (λ c κs. search needs) returns (λ c κs. search needs) returns-2)

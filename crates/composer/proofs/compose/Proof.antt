@@ -1,6 +1,6 @@
 -- `composer::compose` meets its contract, test by test.
 -- Assumes nothing.
-use mathlib.Core.Path.{_≡_, sym, _∙_}
+use mathlib.Core.Path.{_≡_, ap, sym, _∙_}
 use mathlib.Core.Bool.{false}
 use lib.IntN.{pos, negsuc}
 use mir.Syntax.{w64}
@@ -8,22 +8,19 @@ use mir.Facts.{toZ-ofZ}
 use Rattle.whole.specs.Compare.{outside}
 use Rattle.whole.specs.Floor.{fold}
 use Rattle.whole.proofs.Ranges.{in-range}
-use Rattle.position.specs.declared.MgrsCheck.the-variants.{Moved}
-use Rattle.position.specs.Edges.{mgrsCheck}
-use Rattle.position.proofs.Reach.{east-least}
+use Rattle.ranges.specs.declared.MgrsCheck.the-variants.{Moved}
+use Rattle.ranges.specs.Edges.{mgrsCheck}
+use Rattle.ranges.proofs.Reach.{east-least}
 use Rattle.composer.specs.Compose.{composed}
 use borrow.Author.Needs.{needs}
 use Rattle.composer.proofs.compose.Statement.{statement}
 use Rattle.composer.proofs.compose.Tie as tie
 
-is-outside-requires : tie.Need-is-outside-requires
-is-outside-requires c κs = search needs
-
 zone-test : (c : tie.After-is-outside) → c .is-outside .result ≡ outside (pos 0) (pos 60) (c .before .args .zone)
-zone-test c = rw (toZ-ofZ (c .before .fits .zone)) at (c .is-outside .ensures)
+zone-test c = c .is-outside .ensures ∙ ap (outside (pos 0) (pos 60)) (toZ-ofZ (c .before .fits .zone))
 
 p-test : (c : tie.After-is-outside2) → c .is-outside2 .result ≡ outside (negsuc 0) (pos 11) (c .before .before .before .args .p)
-p-test c = rw (toZ-ofZ (c .before .before .before .fits .p)) at (c .is-outside2 .ensures)
+p-test c = c .is-outside2 .ensures ∙ ap (outside (negsuc 0) (pos 11)) (toZ-ofZ (c .before .before .before .fits .p))
 
 zone-in : (c : tie.Else2) → outside (pos 0) (pos 60) (c .before .before .before .before .args .zone) ≡ false
 zone-in c = let o = c .before .before in sym (zone-test (o .before)) ∙ o .if1 .left
@@ -41,30 +38,12 @@ returns : tie.Need-returns
 unfolding composed
 returns c = rw (sym (zone-test (c .before)) ∙ c .if1 .taken)
 
-is-outside-requires-2 : tie.Need-is-outside-requires-2
-is-outside-requires-2 c κs = search needs
-
 returns-2 : tie.Need-returns-2
 unfolding composed
 returns-2 c =
     let t = c .before in
     let o = t .before in
     rw (sym (zone-test (o .before)) ∙ o .if1 .left, sym (p-test t) ∙ c .if2 .taken)
-
-mgrs-check-coords-requires : tie.Need-mgrs-check-coords-requires
-mgrs-check-coords-requires c κs = search needs
-
-enum-known-k : tie.Need-enum-known-k
-enum-known-k c = search needs
-
-enum-known-point : tie.Need-enum-known-point
-enum-known-point c = search needs
-
-fold-of-requires : tie.Need-fold-of-requires
-fold-of-requires c κs = search needs
-
-fold-of-requires-2 : tie.Need-fold-of-requires-2
-fold-of-requires-2 c κs = search needs
 
 -- the point after the edge rules, as it is read back
 moved : (c : tie.After-known-told2) → let s = c .before .before .before .before .before .before .before .before in
@@ -116,15 +95,5 @@ pub compose-spec : {M : Type 1} → statement M
 compose-spec =
     tie.close
     (tie.spec
-    is-outside-requires
-    returns
-    is-outside-requires-2
-    returns-2
-    mgrs-check-coords-requires
-    enum-known-k
-    enum-known-point
-    fold-of-requires
-    fold-of-requires-2
-    compose-at-requires
-    returns-3
-    returns-4)
+    (λ c κs. search needs) returns (λ c κs. search needs) returns-2 (λ c κs. search needs) (λ c. search needs)
+    (λ c. search needs) (λ c κs. search needs) (λ c κs. search needs) compose-at-requires returns-3 returns-4)

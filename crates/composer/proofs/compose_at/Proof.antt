@@ -5,21 +5,11 @@ use native.Mathlib.Omega.{arith}
 use mir.Facts.{toZ-ofZ}
 use Rattle.letters.specs.declared.Place.the-variants.{At}
 use Rattle.letters.specs.Letters.{placeOf}
-use Rattle.letters.specs.Sets.{bandsOf}
-use Rattle.letters.proofs.Places.{place-lt}
+use Rattle.bands.specs.Bands.{bandsOf}
 use Rattle.composer.specs.Compose.{composedAt}
 use borrow.Author.Needs.{needs}
 use Rattle.composer.proofs.compose_at.Statement.{statement}
 use Rattle.composer.proofs.compose_at.Tie as tie
-
-band-place-requires : tie.Need-band-place-requires
-band-place-requires c κs = search needs
-
-enum-known-k : tie.Need-enum-known-k
-enum-known-k c = search needs
-
-enum-told : tie.Need-enum-told
-enum-told c = search needs
 
 band : (c : tie.After-band-place) → let s = c .before in c .band-place .result ≡ placeOf (bandsOf (s .args .zone)) (s .args .band)
 band c = rw (toZ-ofZ (c .before .fits .zone)) at (c .band-place .ensures)
@@ -36,7 +26,7 @@ is-fitting-requires c κs =
     let s = c .before .before .before .before in
     let h = s .pre .0 in
     let n = s .fits .n .fits in
-    (place-lt _ _ _ (band-at c), omega arith, omega arith)
+    (rw (toZ-ofZ (s .fits .zone)) (band-at c), omega arith, omega arith)
 
 returns-2 : tie.Need-returns-2
 unfolding composedAt
@@ -46,9 +36,6 @@ returns-2 c =
     let s = k .before .before .before .before in
     let e = rw (toZ-ofZ (s .fits .zone)) at (f .is-fitting .ensures) in
     rw (band-at k, ← e, c .if1 .taken)
-
-made-of-requires : tie.Need-made-of-requires
-made-of-requires c κs = search needs
 
 returns-3 : tie.Need-returns-3
 unfolding composedAt
@@ -65,11 +52,5 @@ pub compose-at-spec : {M : Type 1} → statement M
 compose-at-spec =
     tie.close
     (tie.spec
-    band-place-requires
-    enum-known-k
-    enum-told
-    returns
-    is-fitting-requires
-    returns-2
-    made-of-requires
+    (λ c κs. search needs) (λ c. search needs) (λ c. search needs) returns is-fitting-requires returns-2 (λ c κs. search needs)
     returns-3)

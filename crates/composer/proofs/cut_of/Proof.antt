@@ -18,15 +18,6 @@ digits c = rw (toZ-ofZ (c .before .fits .p)) at (c .fold-of .ensures)
 side : (c : tie.After-fold-of) → Sided (sideLength (c .before .args .p)) (fold (c .before .args .p))
 side c = sided (c .before .args .p) (c .before .pre)
 
-fold-of-requires : tie.Need-fold-of-requires
-fold-of-requires c κs = search needs
-
-power-of-ten-requires : tie.Need-power-of-ten-requires
-power-of-ten-requires c κs = search needs
-
-power-of-ten-requires-2 : tie.Need-power-of-ten-requires-2
-power-of-ten-requires-2 c κs = search needs
-
 -- how many digits: up to seven, or from eight to eleven
 up-to-7 : (c : tie.Then1) → fold (c .before .before .args .p) ≤ 7
 up-to-7 c = let h = rw (digits (c .before)) at (c .if1 .taken) in omega arith
@@ -70,13 +61,4 @@ returns-2 c =
     rw (c .power-of-ten2 .ensures, digits (t .before), d .is) (cut-by (s .args .x % 200000000000) n (n - 8) 3 (omega (arith, d .few)) e)
 
 pub cut-of-spec : {M : Type 1} → statement M
-cut-of-spec =
-    tie.close
-    (tie.spec
-    fold-of-requires
-    power-of-ten-requires
-    mul-result
-    returns
-    power-of-ten-requires-2
-    mul-result-2
-    returns-2)
+cut-of-spec = tie.close (tie.spec (λ c κs. search needs) (λ c κs. search needs) mul-result returns (λ c κs. search needs) mul-result-2 returns-2)

@@ -6,18 +6,6 @@ use borrow.Author.Needs.{needs}
 use Rattle.composer.proofs.parts_at.Statement.{statement}
 use Rattle.composer.proofs.parts_at.Tie as tie
 
-column-letter-requires : tie.Need-column-letter-requires
-column-letter-requires c κs = search needs
-
-row-letter-requires : tie.Need-row-letter-requires
-row-letter-requires c κs = search needs
-
-cut-of-requires : tie.Need-cut-of-requires
-cut-of-requires c κs = search needs
-
-cut-of-requires-2 : tie.Need-cut-of-requires-2
-cut-of-requires-2 c κs = search needs
-
 returns : tie.Need-returns
 unfolding partsAt
 returns c =
@@ -32,11 +20,4 @@ returns c =
     rw (toZ-ofZ (s .fits .zone), toZ-ofZ (s .fits .p), column, row, east, north)
 
 pub parts-at-spec : {M : Type 1} → statement M
-parts-at-spec =
-    tie.close
-    (tie.spec
-    column-letter-requires
-    row-letter-requires
-    cut-of-requires
-    cut-of-requires-2
-    returns)
+parts-at-spec = tie.close (tie.spec (λ c κs. search needs) (λ c κs. search needs) (λ c κs. search needs) (λ c κs. search needs) returns)

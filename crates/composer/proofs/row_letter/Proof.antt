@@ -1,14 +1,13 @@
 -- `composer::row_letter` meets its contract, by the two kinds of grid.
 -- Assumes nothing.
+use mathlib.Core.Path.{ap, _∙_}
+use Rattle.rows.specs.Letters.{shiftOf}
 use mir.Facts.{toZ-ofZ}
 use Rattle.whole.proofs.Signed.{back}
 use Rattle.composer.specs.Compose.{rowLetter}
 use borrow.Author.Needs.{needs}
 use Rattle.composer.proofs.row_letter.Statement.{statement}
 use Rattle.composer.proofs.row_letter.Tie as tie
-
-ups-row-letter-requires : tie.Need-ups-row-letter-requires
-ups-row-letter-requires c κs = search needs
 
 returns : tie.Need-returns
 unfolding rowLetter
@@ -19,18 +18,6 @@ returns c =
     let l = rw (toZ-ofZ (s .fits .zone)) at (c .ups-row-letter .ensures) in
     rw (z, l)
 
-shift-of-requires : tie.Need-shift-of-requires
-shift-of-requires c κs = search needs
-
-row-of-requires : tie.Need-row-of-requires
-row-of-requires c κs = search needs
-
-letter-of-requires : tie.Need-letter-of-requires
-letter-of-requires c κs = search needs
-
-row-letter-requires : tie.Need-row-letter-requires
-row-letter-requires c κs = search needs
-
 returns-2 : tie.Need-returns-2
 unfolding rowLetter
 returns-2 c =
@@ -40,7 +27,7 @@ returns-2 c =
     let t = h .before in
     let zone = toZ-ofZ (t .before .fits .zone) in
     let z = rw zone at (t .if1 .left) in
-    let s = rw zone at (h .shift-of .ensures) in
+    let s = h .shift-of .ensures ∙ ap shiftOf zone in
     let k = rw (s, back _ _ (w .row-of .ok) (w .row-of .ensures)) at (l .letter-of .ensures) in
     let r = rw (zone, k) at (c .row-letter .ensures) in
     rw (z, r)
@@ -49,10 +36,5 @@ pub row-letter-spec : {M : Type 1} → statement M
 row-letter-spec =
     tie.close
     (tie.spec
-    ups-row-letter-requires
-    returns
-    shift-of-requires
-    row-of-requires
-    letter-of-requires
-    row-letter-requires
+    (λ c κs. search needs) returns (λ c κs. search needs) (λ c κs. search needs) (λ c κs. search needs) (λ c κs. search needs)
     returns-2)

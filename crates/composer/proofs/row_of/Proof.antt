@@ -10,7 +10,7 @@ use mir.Val.{SFits, toZ}
 use mir.Facts.{toZ-ofZ, toZ-pos}
 use Rattle.whole.proofs.Parts.{up, dn}
 use Rattle.whole.proofs.Signed.{less-fits}
-use Rattle.composer.specs.Compose.{rowOf}
+use Rattle.composer.specs.Compose.{rowOfTile}
 use Rattle.composer.proofs.row_of.Statement.{statement}
 use Rattle.composer.proofs.row_of.Tie as tie
 
@@ -21,22 +21,16 @@ row-fits : (c : tie.Start) → SFits w64 (pos (c .args .tile) -ℤ pos 100)
 unfolding up dn
 row-fits c = let h = c .pre in less-fits (pos (c .args .tile)) 100 (record { sfits = omega arith }) (omega arith) (lit≤ tt)
 
-cast-result : tie.Need-cast-result
-cast-result c = search needs
-
 returns : tie.Need-returns
-unfolding rowOf
+unfolding rowOfTile
 returns c = rw (tile (c .before), c .if1 .taken)
-
-cast-result-2 : tie.Need-cast-result-2
-cast-result-2 c = search needs
 
 sub-result : tie.Need-sub-result
 sub-result c = rw (tile (c .before)) (row-fits (c .before))
 
 returns-2 : tie.Need-returns-2
-unfolding rowOf
+unfolding rowOfTile
 returns-2 c = rw (tile (c .before), toZ-ofZ (row-fits (c .before)), c .if1 .left)
 
 pub row-of-spec : {M : Type 1} → statement M
-row-of-spec = tie.close (tie.spec cast-result returns cast-result-2 sub-result returns-2)
+row-of-spec = tie.close (tie.spec (λ c. search needs) returns (λ c. search needs) sub-result returns-2)

@@ -6,18 +6,6 @@ use borrow.Author.Needs.{needs}
 use Rattle.composer.proofs.ups_fits.Statement.{statement}
 use Rattle.composer.proofs.ups_fits.Tie as tie
 
-is-north-requires : tie.Need-is-north-requires
-is-north-requires c κs = search needs
-
-do-agree-requires : tie.Need-do-agree-requires
-do-agree-requires c κs = search needs
-
-is-east-requires : tie.Need-is-east-requires
-is-east-requires c κs = search needs
-
-do-agree-requires-2 : tie.Need-do-agree-requires-2
-do-agree-requires-2 c κs = search needs
-
 returns : tie.Need-returns
 unfolding upsFits
 returns c =
@@ -35,12 +23,4 @@ returns-2 c =
     rw (sym h ∙ c .if1 .left)
 
 pub ups-fits-spec : {M : Type 1} → statement M
-ups-fits-spec =
-    tie.close
-    (tie.spec
-    is-north-requires
-    do-agree-requires
-    is-east-requires
-    do-agree-requires-2
-    returns
-    returns-2)
+ups-fits-spec = tie.close (tie.spec (λ c κs. search needs) (λ c κs. search needs) (λ c κs. search needs) (λ c κs. search needs) returns returns-2)

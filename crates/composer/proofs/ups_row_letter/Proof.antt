@@ -5,7 +5,7 @@ use mir.Facts.{toZ-ofZ}
 use borrow.Author.Needs.{needs}
 use borrow.Author.Tests.{lt-ltb, le-ltb}
 use Rattle.letters.specs.Letters.{firstTile}
-use Rattle.letters.specs.Sets.{rowsOf}
+use Rattle.row_letters.specs.RowLetters.{rowsOf}
 use Rattle.composer.specs.Compose.{letterOfTile}
 use Rattle.composer.proofs.ups_row_letter.Statement.{statement}
 use Rattle.composer.proofs.ups_row_letter.Tie as tie
@@ -13,15 +13,9 @@ use Rattle.composer.proofs.ups_row_letter.Tie as tie
 first : (c : tie.After-first-row) → c .first-row .result ≡ firstTile (rowsOf (c .before .args .zone) (c .before .args .north))
 first c = rw (toZ-ofZ (c .before .fits .zone)) at (c .first-row .ensures)
 
-first-row-requires : tie.Need-first-row-requires
-first-row-requires c κs = search needs
-
 returns : tie.Need-returns
 unfolding letterOfTile
 returns c = let h = rw (first (c .before)) at (c .if1 .taken) in rw (lt-ltb _ _ h)
-
-row-letter-requires : tie.Need-row-letter-requires
-row-letter-requires c κs = search needs
 
 returns-2 : tie.Need-returns-2
 unfolding letterOfTile
@@ -33,4 +27,4 @@ returns-2 c =
     rw (le-ltb _ _ h, l)
 
 pub ups-row-letter-spec : {M : Type 1} → statement M
-ups-row-letter-spec = tie.close (tie.spec first-row-requires returns row-letter-requires returns-2)
+ups-row-letter-spec = tie.close (tie.spec (λ c κs. search needs) returns (λ c κs. search needs) returns-2)

@@ -10,7 +10,6 @@ use mir.Val.{SFits, toZ}
 use mir.Facts.{toZ-ofZ, toZ-pos}
 use Rattle.whole.proofs.Parts.{up, dn}
 use Rattle.whole.proofs.Signed.{less-fits}
-use Rattle.composer.specs.Compose.{utmFits}
 use Rattle.composer.proofs.utm_fits.Statement.{statement}
 use Rattle.composer.proofs.utm_fits.Tie as tie
 
@@ -21,25 +20,13 @@ band-fits : (c : tie.Start) → SFits w64 (pos (c .args .k) -ℤ pos 10)
 unfolding up dn
 band-fits c = let h = c .pre .0 in less-fits (pos (c .args .k)) 10 (record { sfits = omega arith }) (omega arith) (lit≤ tt)
 
-cast-is-allowed : tie.Need-cast-is-allowed
-cast-is-allowed c = search needs
-
 sub-is-allowed : tie.Need-sub-is-allowed
 sub-is-allowed c = rw (place c) (band-fits c)
 
-sub-is-allowed-2 : tie.Need-sub-is-allowed-2
-sub-is-allowed-2 c = search needs
-
-is-allowed-requires : tie.Need-is-allowed-requires
-is-allowed-requires c κs = search needs
-
 returns : tie.Need-returns
-unfolding utmFits
 returns c =
     let s = c .before in
     rw (place s, toZ-ofZ (band-fits s), toZ-ofZ (s .fits .row)) at (c .is-allowed .ensures)
 
 pub utm-fits-spec : {M : Type 1} → statement M
-utm-fits-spec =
-    tie.close
-    (tie.spec cast-is-allowed sub-is-allowed sub-is-allowed-2 is-allowed-requires returns)
+utm-fits-spec = tie.close (tie.spec (λ c. search needs) sub-is-allowed (λ c. search needs) (λ c κs. search needs) returns)

@@ -1,4 +1,4 @@
--- `export::mgrs_latitude_band` meets its contract, by what `to_latitude_band` ensures.
+-- `export::mgrs_latitude_band` meets its contract, by what `zones::to_latitude_band` ensures.
 -- Assumes nothing.
 use mathlib.Core.Path.{ap, _∙_}
 use borrow.Author.Needs.{needs}
@@ -8,11 +8,8 @@ use Rattle.zones.specs.Zones.{bandOf}
 use Rattle.export.proofs.mgrs_latitude_band.Statement.{statement}
 use Rattle.export.proofs.mgrs_latitude_band.Tie as tie
 
-to-latitude-band-requires : tie.Need-to-latitude-band-requires
-to-latitude-band-requires c κs = search needs
-
 returns : tie.Need-returns
 returns c = back _ _ (c .to-latitude-band .ok) (c .to-latitude-band .ensures ∙ ap bandOf (toZ-ofZ (c .before .fits .latitude)))
 
 pub mgrs-latitude-band-spec : {M : Type 1} → statement M
-mgrs-latitude-band-spec = tie.close (tie.spec to-latitude-band-requires returns)
+mgrs-latitude-band-spec = tie.close (tie.spec (λ c κs. search needs) returns)

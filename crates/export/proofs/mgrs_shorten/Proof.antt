@@ -1,78 +1,17 @@
--- `export::mgrs_shorten` meets its contract, by what `shorten` ensures.
+-- `export::mgrs_shorten` meets its contract, by what `numbers::shorten` ensures.
 -- Assumes nothing.
-use mathlib.Core.Path.{_≡_, sym, ap, _∙_}
-use native.Mathlib.Omega.{arith}
 use borrow.Author.Needs.{needs}
-use lib.IntN.{ℤ}
-use lib.ListN.{length}
-use mir.Syntax.{w64}
-use mir.Facts.{toZ-ofZ, toZ-pos}
+use mir.Facts.{toZ-ofZ}
 use Rattle.whole.proofs.Signed.{back}
-use Rattle.squares.specs.Shorten.{shortOf, shortLeaves}
-use Rattle.export.proofs.Refusals.{shortening, up-to-22, short-refusals}
-use Rattle.export.proofs.Room.{short-room, length-fits}
 use Rattle.export.proofs.mgrs_shorten.Statement.{statement}
 use Rattle.export.proofs.mgrs_shorten.Tie as tie
 
-shorten-requires : tie.Need-shorten-requires
-shorten-requires c κs = search needs
-
-answer : (c : tie.After-shorten) → let s = c .before .before .before .before in
-    (c .shorten .result ≡ shortOf (s .args .text .now) (s .args .q) (length (s .args .out .now)))
-    × (c .shorten .last .1 .1 .0 ≡ shortLeaves (s .args .text .now) (s .args .q) (s .args .out .now))
-answer c =
-    let s = c .before .before .before .before in
-    let q = toZ-ofZ (s .fits .q) in
-    let e = c .shorten .ensures in
-    (e .0 ∙ ap (λ (z : ℤ). shortOf (s .args .text .now) z (length (s .args .out .now))) q, e .1 ∙ ap (λ (z : ℤ). shortLeaves (s .args .text .now) z (s .args .out .now)) q)
-
-enum-known-shorter : tie.Need-enum-known-shorter
-enum-known-shorter c = search needs
-
-cast-result : tie.Need-cast-result
-cast-result c =
-    let k = c .before in
-    let w = k .before .before .before .before in
-    let s = w .before .before .before .before in
-    length-fits _ _ (s .good .1 .1 .0 .1) (short-room _ _ _ _ (sym (answer w .0) ∙ k .shorter .given .1))
-
-enum-known-k : tie.Need-enum-known-k
-enum-known-k c = search needs
-
-refused-requires : tie.Need-refused-requires
-refused-requires c κs =
-    let k = c .before in
-    let h = up-to-22 shortening (k .k .given .0 .0) tt (short-refusals _ _ _ _ (sym (answer (k .before .before .before .before) .0) ∙ k .k .given .1)) in
-    omega arith
-
-same-length : tie.Need-same-length
-same-length c = search needs
-
 returns : tie.Need-returns
 returns c =
-    let k = c .before in
-    let a = answer (k .before .before .before .before) in
-    rw (sym (a .0) ∙ k .shorter .given .1) (toZ-pos w64 (cast-result c .sfits), a .1)
-
-same-length-2 : tie.Need-same-length-2
-same-length-2 c = search needs
-
-returns-2 : tie.Need-returns-2
-returns-2 c =
-    let k = c .before .before in
-    let a = answer (k .before .before .before .before) in
-    rw (sym (a .0) ∙ k .k .given .1) (back _ _ (c .refused .ok) (c .refused .ensures), a .1)
+    let w = c .before .before in
+    let s = w .before .before .before .before in
+    let e = rw (toZ-ofZ (s .fits .q)) at (w .shorten .ensures) in
+    (back _ _ (w .shorten .ok) (e .0), e .1)
 
 pub mgrs-shorten-spec : {M : Type 1} → statement M
-mgrs-shorten-spec =
-    tie.close
-    (tie.spec
-    shorten-requires
-    enum-known-shorter
-    cast-result
-    enum-known-k
-    refused-requires
-    same-length
-    returns
-    same-length-2
-    returns-2)
+mgrs-shorten-spec = tie.close (tie.spec (λ c κs. search needs) (λ c. search needs) returns)

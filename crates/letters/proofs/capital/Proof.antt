@@ -8,18 +8,15 @@ use Rattle.letters.proofs.capital.Tie as tie
 
 returns : tie.Need-returns
 unfolding capitalOf
-returns c = rw (lt-ltb _ _ (c .if1 .taken))
+returns c = rw (lt-ltb _ 97 (c .if1 .taken))
 
 returns-2 : tie.Need-returns-2
 unfolding capitalOf
-returns-2 c = rw (le-ltb _ _ (c .before .if1 .left), lt-ltb _ _ (c .if2 .taken))
-
-sub-result : tie.Need-sub-result
-sub-result c = search needs
+returns-2 c = rw (le-ltb _ _ (c .before .if1 .left), lt-ltb 122 _ (c .if2 .taken))
 
 returns-3 : tie.Need-returns-3
 unfolding capitalOf
 returns-3 c = rw (le-ltb _ _ (c .before .if1 .left), le-ltb _ _ (c .if2 .left))
 
 pub capital-spec : {M : Type 1} → statement M
-capital-spec = tie.close (tie.spec returns returns-2 sub-result returns-3)
+capital-spec = tie.close (tie.spec returns returns-2 (λ c. search needs) returns-3)

@@ -1,7 +1,7 @@
 -- `letters::is_east` meets its contract.
 -- Assumes nothing.
 use borrow.Author.Tests.{eq-eqb, ne-eqb}
-use Rattle.letters.specs.Sets.{eastBand}
+use Rattle.letters.specs.Letters.{eastBand}
 use Rattle.letters.proofs.is_east.Statement.{statement}
 use Rattle.letters.proofs.is_east.Tie as tie
 

@@ -8,14 +8,11 @@ use Rattle.listing.proofs.answer_of.Tie as tie
 
 returns : tie.Need-returns
 unfolding answerOf
-returns c = rw (lt-ltb _ _ (c .if1 .taken))
-
-read-requires : tie.Need-read-requires
-read-requires c κs = search needs
+returns c = rw (lt-ltb 64 _ (c .if1 .taken))
 
 returns-2 : tie.Need-returns-2
 unfolding answerOf
 returns-2 c = rw (le-ltb _ _ (c .before .if1 .left)) (c .read .ensures)
 
 pub answer-of-spec : {M : Type 1} → statement M
-answer-of-spec = tie.close (tie.spec returns read-requires returns-2)
+answer-of-spec = tie.close (tie.spec returns (λ c κs. search needs) returns-2)

@@ -8,18 +8,6 @@ use lib.ListN.{drop}
 use Rattle.listing.proofs.list_line.Statement.{statement}
 use Rattle.listing.proofs.list_line.Tie as tie
 
-slice-aggregate-put-answer : tie.Need-slice-aggregate-put-answer
-slice-aggregate-put-answer c = search needs
-
-answer-of-requires : tie.Need-answer-of-requires
-answer-of-requires c κs = search needs
-
-put-answer-requires : tie.Need-put-answer-requires
-put-answer-requires c κs = search needs
-
-sub-n : tie.Need-sub-n
-sub-n c = search needs
-
 line : (c : tie.After-put-answer)
     → let s = c .before .before .before .before .before in
     drop (c .put-answer .result) (c .put-answer .last .0) ≡ lineOf (s .args .number) (s .args .text .now)
@@ -31,21 +19,6 @@ returns c =
     let p = c .before .before in
     let s = p .before .before .before .before .before in
     short _ (p .put-answer .last .0) (s .args .out .now) (p .put-answer .result) (line p) (p .put-answer .kept .0) (p .put-answer .ensures .0) (c .if1 .taken)
-
-sub-copy : tie.Need-sub-copy
-sub-copy c = search needs
-
-part-copy-start : tie.Need-part-copy-start
-part-copy-start c = search needs
-
-part-copy-end : tie.Need-part-copy-end
-part-copy-end c = search needs
-
-copy-requires : tie.Need-copy-requires
-copy-requires c κs = search needs
-
-same-length : tie.Need-same-length
-same-length c = search needs
 
 returns-2 : tie.Need-returns-2
 returns-2 c =
@@ -60,14 +33,5 @@ pub list-line-spec : {M : Type 1} → statement M
 list-line-spec =
     tie.close
     (tie.spec
-    slice-aggregate-put-answer
-    answer-of-requires
-    put-answer-requires
-    sub-n
-    returns
-    sub-copy
-    part-copy-start
-    part-copy-end
-    copy-requires
-    same-length
-    returns-2)
+    (λ c. search needs) (λ c κs. search needs) (λ c κs. search needs) (λ c. search needs) returns (λ c. search needs)
+    (λ c. search needs) (λ c. search needs) (λ c κs. search needs) (λ c. search needs) returns-2)

@@ -14,15 +14,6 @@ stored [] k b h = absurd (not-suc-le-zero h)
 stored (x ∷ l) zero b h = refl
 stored (x ∷ l) (suc k) b h = stored l k b (le-of-suc-le-suc h)
 
-sub-to : tie.Need-sub-to
-sub-to c = search needs
-
-slice-write-line : tie.Need-slice-write-line
-slice-write-line c = search needs
-
-same-length : tie.Need-same-length
-same-length c = search needs
-
 returns : tie.Need-returns
 returns c =
     let h : c .args .at - 1 < length (c .args .line .now) = search needs in
@@ -30,4 +21,4 @@ returns c =
     (search needs, stored (c .args .line .now) (c .args .at - 1) (c .args .b) h ∙ ap (λ (k : ℕ). c .args .b ∷ drop k (c .args .line .now)) e)
 
 pub put-spec : {M : Type 1} → statement M
-put-spec = tie.close (tie.spec sub-to slice-write-line same-length returns)
+put-spec = tie.close (tie.spec (λ c. search needs) (λ c. search needs) (λ c. search needs) returns)

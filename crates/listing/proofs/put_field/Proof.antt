@@ -10,27 +10,12 @@ use borrow.Author.Needs.{needs}
 use Rattle.listing.proofs.put_field.Statement.{statement}
 use Rattle.listing.proofs.put_field.Tie as tie
 
-fold-of-requires : tie.Need-fold-of-requires
-fold-of-requires c κs = search needs
-
 add-put-number : tie.Need-add-put-number
 add-put-number c =
     let s = c .before .before .before .before in
     let h = fold-lt (s .args .z) (s .fits .z) in
     let e = rw (toZ-ofZ (s .fits .z)) at (c .fold-of .ensures) in
     record { fits = omega arith }
-
-put-number-requires : tie.Need-put-number-requires
-put-number-requires c κs = search needs
-
-put-requires : tie.Need-put-requires
-put-requires c κs = search needs
-
-put-requires-2 : tie.Need-put-requires-2
-put-requires-2 c κs = search needs
-
-same-length : tie.Need-same-length
-same-length c = search needs
 
 returns : tie.Need-returns
 returns c =
@@ -46,18 +31,6 @@ returns c =
     let y = m .put .ensures .0 in
     let z = b .put2 .ensures .0 in
     (omega (arith, x .0), omega (arith, x .1), rw (k, ← e) (b .put2 .ensures .1 ∙ ap (λ (t : List ℕ). 32 ∷ t) (m .put .ensures .1 ∙ ap (λ (t : List ℕ). 45 ∷ t) (x .2))))
-
-fold-of-requires-2 : tie.Need-fold-of-requires-2
-fold-of-requires-2 c κs = search needs
-
-put-number-requires-2 : tie.Need-put-number-requires-2
-put-number-requires-2 c κs = search needs
-
-put-requires-3 : tie.Need-put-requires-3
-put-requires-3 c κs = search needs
-
-same-length-2 : tie.Need-same-length-2
-same-length-2 c = search needs
 
 returns-2 : tie.Need-returns-2
 returns-2 c =
@@ -76,15 +49,6 @@ pub put-field-spec : {M : Type 1} → statement M
 put-field-spec =
     tie.close
     (tie.spec
-    fold-of-requires
-    add-put-number
-    put-number-requires
-    put-requires
-    put-requires-2
-    same-length
-    returns
-    fold-of-requires-2
-    put-number-requires-2
-    put-requires-3
-    same-length-2
+    (λ c κs. search needs) add-put-number (λ c κs. search needs) (λ c κs. search needs) (λ c κs. search needs)
+    (λ c. search needs) returns (λ c κs. search needs) (λ c κs. search needs) (λ c κs. search needs) (λ c. search needs)
     returns-2)

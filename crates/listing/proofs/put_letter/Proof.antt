@@ -8,15 +8,6 @@ use borrow.Author.Needs.{needs}
 use Rattle.listing.proofs.put_letter.Statement.{statement}
 use Rattle.listing.proofs.put_letter.Tie as tie
 
-put-requires : tie.Need-put-requires
-put-requires c κs = search needs
-
-put-requires-2 : tie.Need-put-requires-2
-put-requires-2 c κs = search needs
-
-same-length : tie.Need-same-length
-same-length c = search needs
-
 returns : tie.Need-returns
 returns c =
     let b = c .before .before in
@@ -26,4 +17,4 @@ returns c =
     (omega arith, b .put2 .ensures .1 ∙ ap (λ (t : List ℕ). 32 ∷ t) (a .put .ensures .1))
 
 pub put-letter-spec : {M : Type 1} → statement M
-put-letter-spec = tie.close (tie.spec put-requires put-requires-2 same-length returns)
+put-letter-spec = tie.close (tie.spec (λ c κs. search needs) (λ c κs. search needs) (λ c. search needs) returns)

@@ -10,15 +10,6 @@ use borrow.Author.Needs.{needs}
 use Rattle.listing.proofs.put_position.Statement.{statement}
 use Rattle.listing.proofs.put_position.Tie as tie
 
-put-units-requires : tie.Need-put-units-requires
-put-units-requires c κs = search needs
-
-put-zone-requires : tie.Need-put-zone-requires
-put-zone-requires c κs = search needs
-
-same-length : tie.Need-same-length
-same-length c = search needs
-
 returns : tie.Need-returns
 returns c =
     let b = c .before .before in
@@ -31,4 +22,4 @@ returns c =
     (omega (arith, x .1, y .0), y .1 ∙ ap (λ (t : List ℕ). zoneText (s .args .number) (s .args .q) ++ t) units)
 
 pub put-position-spec : {M : Type 1} → statement M
-put-position-spec = tie.close (tie.spec put-units-requires put-zone-requires same-length returns)
+put-position-spec = tie.close (tie.spec (λ c κs. search needs) (λ c κs. search needs) (λ c. search needs) returns)

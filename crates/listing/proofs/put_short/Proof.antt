@@ -72,21 +72,6 @@ end line₀ line line′ at to r n rest l h e d =
 loop-holds : tie.Need-loop-holds Inv-loop μ-loop
 loop-holds c = start _ _ _ (c .before .fits .n .fits)
 
-cast-put : tie.Need-cast-put Inv-loop μ-loop
-cast-put c = search needs
-
-add-put : tie.Need-add-put Inv-loop μ-loop
-add-put c = search needs
-
-put-requires : tie.Need-put-requires Inv-loop μ-loop
-put-requires c κs = search needs
-
-cast-put-2 : tie.Need-cast-put-2 Inv-loop μ-loop
-cast-put-2 c = search needs
-
-add-put-2 : tie.Need-add-put-2 Inv-loop μ-loop
-add-put-2 c = search needs
-
 -- after the first of two digits
 first : (p : tie.After-put Inv-loop μ-loop) → let l = p .before .before .before in let s = l .before .before in Left (s .args .line .now) (p .put .last .0) (s .args .at) (p .put .result) (s .args .n) (l .loop .rest / 10)
 first p =
@@ -101,29 +86,11 @@ put-requires-2 c κs =
     let s = t .before .before .before in
     room _ _ _ _ _ _ (first p) (s .pre .0) (s .pre .1)
 
-loop-less : tie.Need-loop-less Inv-loop μ-loop
-loop-less c = search needs
-
 loop-again : tie.Need-loop-again Inv-loop μ-loop
 loop-again c =
     let q = c .before .before in
     let p = q .before .before .before .before in
     turns _ _ _ _ _ _ _ _ _ (first p) (p .before .before .loop-test .taken) refl (q .put2 .ensures .0) (q .put2 .ensures .1) (q .put2 .kept .0)
-
-cast-put-3 : tie.Need-cast-put-3 Inv-loop μ-loop
-cast-put-3 c = search needs
-
-add-put-3 : tie.Need-add-put-3 Inv-loop μ-loop
-add-put-3 c = search needs
-
-put-requires-3 : tie.Need-put-requires-3 Inv-loop μ-loop
-put-requires-3 c κs = search needs
-
-cast-put-4 : tie.Need-cast-put-4 Inv-loop μ-loop
-cast-put-4 c = search needs
-
-add-put-4 : tie.Need-add-put-4 Inv-loop μ-loop
-add-put-4 c = search needs
 
 -- after the first of the last two digits
 second : (p : tie.After-put3 Inv-loop μ-loop) → let l = p .before .before .before .before in let s = l .before .before in Left (s .args .line .now) (p .put3 .last .0) (s .args .at) (p .put3 .result) (s .args .n) (l .loop .rest / 10)
@@ -137,27 +104,12 @@ put-requires-4 c κs =
     let s = p .before .before .before .before .before .before in
     room _ _ _ _ _ _ (second p) (s .pre .0) (s .pre .1)
 
-same-length : tie.Need-same-length Inv-loop μ-loop
-same-length c = search needs
-
 returns : tie.Need-returns Inv-loop μ-loop
 returns c =
     let q = c .before .before in
     let p = q .before .before .before .before in
     let h = p .before .before .before .loop-test .left in
     end _ _ _ _ _ _ _ _ (second p) (omega arith) (q .put4 .ensures .0) (q .put4 .ensures .1)
-
-cast-put-5 : tie.Need-cast-put-5 Inv-loop μ-loop
-cast-put-5 c = search needs
-
-add-put-5 : tie.Need-add-put-5 Inv-loop μ-loop
-add-put-5 c = search needs
-
-put-requires-5 : tie.Need-put-requires-5 Inv-loop μ-loop
-put-requires-5 c κs = search needs
-
-same-length-2 : tie.Need-same-length-2 Inv-loop μ-loop
-same-length-2 c = search needs
 
 returns-2 : tie.Need-returns-2 Inv-loop μ-loop
 returns-2 c =
@@ -169,27 +121,7 @@ pub put-short-spec : {M : Type 1} → statement M
 put-short-spec =
     tie.close
     (tie.spec
-    Inv-loop
-    μ-loop
-    loop-holds
-    cast-put
-    add-put
-    put-requires
-    cast-put-2
-    add-put-2
-    put-requires-2
-    loop-less
-    loop-again
-    cast-put-3
-    add-put-3
-    put-requires-3
-    cast-put-4
-    add-put-4
-    put-requires-4
-    same-length
-    returns
-    cast-put-5
-    add-put-5
-    put-requires-5
-    same-length-2
-    returns-2)
+    Inv-loop μ-loop loop-holds (λ c. search needs) (λ c. search needs) (λ c κs. search needs) (λ c. search needs)
+    (λ c. search needs) put-requires-2 (λ c. search needs) loop-again (λ c. search needs) (λ c. search needs)
+    (λ c κs. search needs) (λ c. search needs) (λ c. search needs) put-requires-4 (λ c. search needs) returns
+    (λ c. search needs) (λ c. search needs) (λ c κs. search needs) (λ c. search needs) returns-2)

@@ -8,21 +8,6 @@ use borrow.Author.Needs.{needs}
 use Rattle.listing.proofs.put_units.Statement.{statement}
 use Rattle.listing.proofs.put_units.Tie as tie
 
-put-requires : tie.Need-put-requires
-put-requires c κs = search needs
-
-put-field-requires : tie.Need-put-field-requires
-put-field-requires c κs = search needs
-
-put-field-requires-2 : tie.Need-put-field-requires-2
-put-field-requires-2 c κs = search needs
-
-put-field-requires-3 : tie.Need-put-field-requires-3
-put-field-requires-3 c κs = search needs
-
-same-length : tie.Need-same-length
-same-length c = search needs
-
 returns : tie.Need-returns
 returns c =
     let d = c .before .before in
@@ -45,9 +30,4 @@ pub put-units-spec : {M : Type 1} → statement M
 put-units-spec =
     tie.close
     (tie.spec
-    put-requires
-    put-field-requires
-    put-field-requires-2
-    put-field-requires-3
-    same-length
-    returns)
+    (λ c κs. search needs) (λ c κs. search needs) (λ c κs. search needs) (λ c κs. search needs) (λ c. search needs) returns)

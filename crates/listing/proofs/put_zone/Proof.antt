@@ -8,24 +8,6 @@ use borrow.Author.Needs.{needs}
 use Rattle.listing.proofs.put_zone.Statement.{statement}
 use Rattle.listing.proofs.put_zone.Tie as tie
 
-put-letter-requires : tie.Need-put-letter-requires
-put-letter-requires c κs = search needs
-
-side-of-requires : tie.Need-side-of-requires
-side-of-requires c κs = search needs
-
-put-letter-requires-2 : tie.Need-put-letter-requires-2
-put-letter-requires-2 c κs = search needs
-
-put-field-requires : tie.Need-put-field-requires
-put-field-requires c κs = search needs
-
-put-number-requires : tie.Need-put-number-requires
-put-number-requires c κs = search needs
-
-same-length : tie.Need-same-length
-same-length c = search needs
-
 returns : tie.Need-returns
 returns c =
     let d = c .before .before in
@@ -46,10 +28,5 @@ pub put-zone-spec : {M : Type 1} → statement M
 put-zone-spec =
     tie.close
     (tie.spec
-    put-letter-requires
-    side-of-requires
-    put-letter-requires-2
-    put-field-requires
-    put-number-requires
-    same-length
-    returns)
+    (λ c κs. search needs) (λ c κs. search needs) (λ c κs. search needs) (λ c κs. search needs) (λ c κs. search needs)
+    (λ c. search needs) returns)

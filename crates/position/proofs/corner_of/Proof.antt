@@ -32,9 +32,6 @@ corner-fits p z f t =
     let k = half-le p in
     less-fits z (halfOf p) f (omega arith) (omega arith)
 
-half-of-requires : tie.Need-half-of-requires
-half-of-requires c κs = search needs
-
 cast-half : tie.Need-cast-half
 cast-half c = rw (half c) (wide (c .before .args .p))
 
@@ -60,4 +57,4 @@ returns-2 c =
     rw (toZ-ofZ (s .fits .centre), read (c .before), test c, toZ-ofZ (corner-fits (s .args .p) (s .args .centre) (s .fits .centre) (test c)))
 
 pub corner-of-spec : {M : Type 1} → statement M
-corner-of-spec = tie.close (tie.spec half-of-requires cast-half returns sub-result returns-2)
+corner-of-spec = tie.close (tie.spec (λ c κs. search needs) cast-half returns sub-result returns-2)

@@ -6,7 +6,7 @@ use lib.Signed.{ltZ}
 use Rattle.whole.proofs.Parts.{up, dn, lt-yes, lt-no}
 use borrow.Author.Tests.{ltb-false}
 use Rattle.whole.proofs.Signed.{cast-asks, cast-gives}
-use Rattle.position.specs.Squares.{countOf}
+use Rattle.position.specs.inner.Counts.{countOf}
 use Prim.Native.Nat.{_^_, _≤_, _<_}
 use native.Mathlib.Omega.{arith}
 use lib.IntN.{ℤ, pos, negsuc}

@@ -5,7 +5,8 @@ use borrow.Author.Needs.{needs}
 use Prim.Native.Nat.{_-_, _≤_}
 use native.Mathlib.Omega.{arith}
 use Rattle.whole.proofs.Powers.{ten-is}
-use Rattle.position.specs.Squares.{countOf, halfOf}
+use Rattle.position.specs.inner.Counts.{countOf}
+use Rattle.position.specs.Squares.{halfOf}
 use Rattle.position.proofs.Squares.{half-is, counted, none}
 use mir.Facts.{toZ-ofZ}
 use Rattle.position.proofs.half_of.Statement.{statement}
@@ -14,17 +15,11 @@ use Rattle.position.proofs.half_of.Tie as tie
 n-is : (c : tie.After-count-of) → c .count-of .result ≡ countOf (c .before .args .p)
 n-is c = rw (toZ-ofZ (c .before .fits .p)) at (c .count-of .ensures)
 
-count-of-requires : tie.Need-count-of-requires
-count-of-requires c κs = search needs
-
 small : (c : tie.Else1) → countOf (c .before .before .args .p) ≤ 11
 small c = rw (n-is (c .before)) at (c .if1 .left)
 
 returns : tie.Need-returns
 returns c = sym (none (c .before .before .args .p) (rw (n-is (c .before)) at (c .if1 .taken)) .0)
-
-power-of-ten-requires : tie.Need-power-of-ten-requires
-power-of-ten-requires c κs = search needs
 
 returns-2 : tie.Need-returns-2
 returns-2 c =
@@ -36,4 +31,4 @@ returns-2 c =
     ∙ sym (ap halfOf (counted p h) ∙ half-is (countOf p) h)
 
 pub half-of-spec : {M : Type 1} → statement M
-half-of-spec = tie.close (tie.spec count-of-requires returns power-of-ten-requires returns-2)
+half-of-spec = tie.close (tie.spec (λ c κs. search needs) returns (λ c κs. search needs) returns-2)

@@ -12,9 +12,6 @@ use Rattle.position.proofs.side_length.Tie as tie
 half : (c : tie.After-half-of) → c .half-of .result ≡ halfOf (c .before .args .p)
 half c = rw (toZ-ofZ (c .before .fits .p)) at (c .half-of .ensures)
 
-half-of-requires : tie.Need-half-of-requires
-half-of-requires c κs = search needs
-
 mul-result : tie.Need-mul-result
 mul-result c = let h = half-le (c .before .args .p) in rw (half c) (record { fits = omega arith })
 
@@ -23,4 +20,4 @@ unfolding sideLength
 returns c = rw (half c)
 
 pub side-length-spec : {M : Type 1} → statement M
-side-length-spec = tie.close (tie.spec half-of-requires mul-result returns)
+side-length-spec = tie.close (tie.spec (λ c κs. search needs) mul-result returns)

@@ -22,12 +22,6 @@ easting-back c = toZ-ofZ {w = w64} {z = c .before .args .q .easting} (record { s
 northing-back : (c : tie.After-struct-told) → toZ w64 (ofZ w64 (c .before .args .q .northing)) ≡ c .before .args .q .northing
 northing-back c = toZ-ofZ {w = w64} {z = c .before .args .q .northing} (record { sfits = c .struct-told .given .1 .1 .0 .1 })
 
-corner-of-requires : tie.Need-corner-of-requires
-corner-of-requires c κs = search needs
-
-corner-of-requires-2 : tie.Need-corner-of-requires-2
-corner-of-requires-2 c κs = search needs
-
 returns : tie.Need-returns
 returns c =
     let n = c .before in
@@ -38,4 +32,4 @@ returns c =
     rw (zone-back f, p-back f, east, north)
 
 pub south-west-spec : {M : Type 1} → statement M
-south-west-spec = tie.close (tie.spec corner-of-requires corner-of-requires-2 returns)
+south-west-spec = tie.close (tie.spec (λ c κs. search needs) (λ c κs. search needs) returns)

@@ -13,15 +13,6 @@ use Rattle.reader.proofs.centre_at.Tie as tie
 sum : (c : tie.Start) → c .args .tile * 200000000000 + (2 * c .args .digits + 1) * c .args .half < 2 ^ 63
 sum c = sum-lt _ _ (c .fits .tile .fits) (c .pre .1)
 
-mul-result : tie.Need-mul-result
-mul-result c = search needs
-
-mul-result-2 : tie.Need-mul-result-2
-mul-result-2 c = search needs
-
-add-result : tie.Need-add-result
-add-result c = search needs
-
 mul-result-3 : tie.Need-mul-result-3
 mul-result-3 c = record { fits = lt-trans (c .pre .1) (omega arith) }
 
@@ -35,4 +26,4 @@ returns : tie.Need-returns
 returns c = toZ-pos w64 (sum c)
 
 pub centre-at-spec : {M : Type 1} → statement M
-centre-at-spec = tie.close (tie.spec mul-result mul-result-2 add-result mul-result-3 add-result-2 cast-result returns)
+centre-at-spec = tie.close (tie.spec (λ c. search needs) (λ c. search needs) (λ c. search needs) mul-result-3 add-result-2 cast-result returns)

@@ -1,6 +1,6 @@
 -- `reader::full_of` meets its contract, by what the block, the digits and the square ensure.
 -- Assumes nothing.
-use mathlib.Core.Path.{_≡_, sym, _∙_}
+use mathlib.Core.Path.{_≡_, ap, sym, _∙_}
 use mathlib.Core.List.{List}
 use Prim.Native.Nat.{ℕ, _-_, _/_, _^_, _≤_, _<_}
 use native.Mathlib.Omega.{arith}
@@ -11,71 +11,24 @@ use lib.ListN.{length, drop, length-drop}
 use mir.Syntax.{w64}
 use mir.Val.{toZ, ofZ}
 use mir.Facts.{toZ-ofZ, toZ-pos}
-use Rattle.reader.specs.declared.BlockAnswer.the-variants.{Block}
-use Rattle.reader.specs.Head.{letterIn}
-use Rattle.reader.specs.Block.{blockOf}
-use Rattle.position.specs.Squares.{countOf, halfOf}
+use Rattle.block.specs.declared.BlockAnswer.the-variants.{Block}
+use Rattle.head.specs.Head.{letterIn}
+use Rattle.block.specs.Block.{blockOf}
+use Rattle.position.specs.inner.Counts.{countOf}
+use Rattle.position.specs.Squares.{halfOf}
 use Rattle.runs.specs.declared.Digits.{Digits}
 use Rattle.runs.specs.declared.DigitsAnswer.the-variants.{Halves}
 use Rattle.runs.specs.Digits.{digitsOf}
 use Rattle.reader.specs.Read.{fullOf}
-use Rattle.runs.proofs.Laws.{rest}
-use Rattle.reader.proofs.Sizes.{halved-by}
+use Rattle.words.proofs.Laws.{rest}
+use Rattle.runs.proofs.Halves.{halved-by}
 use Rattle.reader.proofs.full_of.Statement.{statement}
 use Rattle.reader.proofs.full_of.Tie as tie
-
-shared-slice-read-capital : tie.Need-shared-slice-read-capital
-shared-slice-read-capital c = search needs
-
-capital-requires : tie.Need-capital-requires
-capital-requires c κs = search needs
-
-shared-slice-read-capital-2 : tie.Need-shared-slice-read-capital-2
-shared-slice-read-capital-2 c = search needs
-
-capital-requires-2 : tie.Need-capital-requires-2
-capital-requires-2 c κs = search needs
-
-sub-half-of : tie.Need-sub-half-of
-sub-half-of c = search needs
-
-cast-half-of : tie.Need-cast-half-of
-cast-half-of c = search needs
-
-half-of-requires : tie.Need-half-of-requires
-half-of-requires c κs = search needs
-
-block-of-requires : tie.Need-block-of-requires
-block-of-requires c κs = search needs
-
-enum-known-n : tie.Need-enum-known-n
-enum-known-n c = search needs
-
-enum-known-tiles : tie.Need-enum-known-tiles
-enum-known-tiles c = search needs
-
-sub-digits-of : tie.Need-sub-digits-of
-sub-digits-of c = search needs
-
-part-digits-of-start : tie.Need-part-digits-of-start
-part-digits-of-start c = search needs
-
-part-digits-of-end : tie.Need-part-digits-of-end
-part-digits-of-end c = search needs
-
-digits-of-requires : tie.Need-digits-of-requires
-digits-of-requires c κs = search needs
-
-enum-known-n-2 : tie.Need-enum-known-n-2
-enum-known-n-2 c = search needs
-
-enum-known-d : tie.Need-enum-known-d
-enum-known-d c = search needs
 
 -- the block, of the letters as the text has them
 block : (c : tie.After-block-of)
     → let s = c .before .before .before .before .before .before .before in
-    c .block-of .result ≡ blockOf (s .args .zone) (s .args .band) (s .args .k) (letterIn (s .args .rest .now) 0) (letterIn (s .args .rest .now) 1)
+    c .block-of .result ≡ blockOf (s .args .zone) (s .args .band) (letterIn (s .args .rest .now) 0) (letterIn (s .args .rest .now) 1)
 block c =
     let r = c .before .before in
     let l = r .before .before in
@@ -89,7 +42,7 @@ returns c = let n = c .before in let k = sym (block (n .before .before)) ∙ n .
 -- its tiles, and the digits after it
 tiled : (c : tie.After-known-told2)
     → let s = c .before .before .before .before .before .before .before .before .before .before in
-    blockOf (s .args .zone) (s .args .band) (s .args .k) (letterIn (s .args .rest .now) 0) (letterIn (s .args .rest .now) 1) ≡ Block (c .before .tiles .given .0 .0)
+    blockOf (s .args .zone) (s .args .band) (letterIn (s .args .rest .now) 0) (letterIn (s .args .rest .now) 1) ≡ Block (c .before .tiles .given .0 .0)
 tiled c = let t = c .before in sym (block (t .before .before)) ∙ t .tiles .given .1
 
 digits : (c : tie.After-digits-of)
@@ -104,7 +57,7 @@ half : (c : tie.After-half-of) → let s = c .before .before .before .before .be
 half c =
     let s = c .before .before .before .before .before .before in
     let h : (length (s .args .rest .now) - 2) / 2 < 9223372036854775808 = search needs in
-    rw (toZ-pos w64 {n = (length (s .args .rest .now) - 2) / 2} h) at (c .half-of .ensures)
+    c .half-of .ensures ∙ ap halfOf (toZ-pos w64 {n = (length (s .args .rest .now) - 2) / 2} h)
 
 count-is : (n : ℕ) → n ≤ 11 → countOf (pos n) ≡ n
 unfolding countOf
@@ -153,23 +106,7 @@ pub full-of-spec : {M : Type 1} → statement M
 full-of-spec =
     tie.close
     (tie.spec
-    shared-slice-read-capital
-    capital-requires
-    shared-slice-read-capital-2
-    capital-requires-2
-    sub-half-of
-    cast-half-of
-    half-of-requires
-    block-of-requires
-    enum-known-n
-    enum-known-tiles
-    sub-digits-of
-    part-digits-of-start
-    part-digits-of-end
-    digits-of-requires
-    enum-known-n-2
-    enum-known-d
-    square-of-requires
-    returns
-    returns-2
-    returns-3)
+    (λ c. search needs) (λ c κs. search needs) (λ c. search needs) (λ c κs. search needs) (λ c. search needs)
+    (λ c. search needs) (λ c κs. search needs) (λ c κs. search needs) (λ c. search needs) (λ c. search needs)
+    (λ c. search needs) (λ c. search needs) (λ c. search needs) (λ c κs. search needs) (λ c. search needs) (λ c. search needs)
+    square-of-requires returns returns-2 returns-3)

@@ -9,7 +9,8 @@ use mir.Syntax.{w64}
 use mir.Val.{toZ, ofZ}
 use mir.Facts.{toZ-ofZ}
 use Rattle.position.specs.declared.Metres.{Metres}
-use Rattle.position.specs.Metres.{exact, metresOf}
+use Rattle.position.specs.inner.Counts.{exact}
+use Rattle.position.specs.Metres.{metresOf}
 use Rattle.position.proofs.Exact.{exact-float, two-million}
 use Rattle.reader.proofs.metres_at.Statement.{statement}
 use Rattle.reader.proofs.metres_at.Tie as tie

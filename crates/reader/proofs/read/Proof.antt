@@ -7,23 +7,13 @@ use borrow.Author.Needs.{needs}
 use lib.ListN.{length}
 use mir.Syntax.{w64}
 use mir.Facts.{toZ-ofZ}
-use Rattle.reader.specs.declared.HeadAnswer.the-variants.{Start}
-use Rattle.reader.specs.Head.{headOf}
+use Rattle.head.specs.declared.HeadAnswer.the-variants.{Start}
+use Rattle.head.specs.Head.{headOf}
 use Rattle.reader.specs.Read.{readOf}
-use Rattle.letters.proofs.Places.{place-lt}
-use Rattle.runs.proofs.Laws.{rest}
-use Rattle.reader.proofs.Stages.{began}
+use Rattle.words.proofs.Laws.{rest}
+use Rattle.head.proofs.Began.{began}
 use Rattle.reader.proofs.read.Statement.{statement}
 use Rattle.reader.proofs.read.Tie as tie
-
-head-of-requires : tie.Need-head-of-requires
-head-of-requires c κs = search needs
-
-enum-known-n : tie.Need-enum-known-n
-enum-known-n c = search needs
-
-enum-known-head : tie.Need-enum-known-head
-enum-known-head c = search needs
 
 head-is : (c : tie.After-known-told2) → headOf (c .before .before .before .before .before .args .text .now) ≡ Start (c .before .head .given .0 .0)
 head-is c = let h = c .before in sym (h .before .before .head-of .ensures) ∙ h .head .given .1
@@ -36,12 +26,6 @@ sub-tail-of c = inside c
 
 part-tail-of-start : tie.Need-part-tail-of-start
 part-tail-of-start c = let h = inside c in search needs
-
-part-tail-of-end : tie.Need-part-tail-of-end
-part-tail-of-end c = search needs
-
-tail-of-requires : tie.Need-tail-of-requires
-tail-of-requires c κs = place-lt _ _ _ (began _ _ (head-is (c .before .before)) .place)
 
 returns : tie.Need-returns
 unfolding readOf
@@ -62,12 +46,5 @@ pub read-spec : {M : Type 1} → statement M
 read-spec =
     tie.close
     (tie.spec
-    head-of-requires
-    enum-known-n
-    enum-known-head
-    sub-tail-of
-    part-tail-of-start
-    part-tail-of-end
-    tail-of-requires
-    returns
-    returns-2)
+    (λ c κs. search needs) (λ c. search needs) (λ c. search needs) sub-tail-of part-tail-of-start (λ c. search needs)
+    (λ c κs. search needs) returns returns-2)

@@ -10,29 +10,17 @@ use Rattle.reader.proofs.Sizes.{square-near, bare-near}
 use Rattle.reader.proofs.read_metres.Statement.{statement}
 use Rattle.reader.proofs.read_metres.Tie as tie
 
-read-requires : tie.Need-read-requires
-read-requires c κs = search needs
-
-enum-known-q : tie.Need-enum-known-q
-enum-known-q c = search needs
-
 square : (c : tie.After-known-told) → readOf (c .before .before .before .before .before .args .text .now) ≡ Square (c .before .q .given .0 .0)
 square c = let q = c .before in sym (q .before .before .read .ensures) ∙ q .q .given .1
 
 metres-at-requires : tie.Need-metres-at-requires
 metres-at-requires c κs = let n = square-near _ _ (square c) in (small-exact _ (n .east), small-exact _ (n .north))
 
-enum-known-q-2 : tie.Need-enum-known-q-2
-enum-known-q-2 c = search needs
-
 bare : (c : tie.After-known-told2) → readOf (c .before .before .before .before .before .args .text .now) ≡ Bare (c .before .q2 .given .0 .0)
 bare c = let q = c .before in sym (q .before .before .read .ensures) ∙ q .q2 .given .1
 
 metres-at-requires-2 : tie.Need-metres-at-requires-2
 metres-at-requires-2 c κs = let n = bare-near _ _ (bare c) in (small-exact _ (n .east), small-exact _ (n .north))
-
-enum-known-n : tie.Need-enum-known-n
-enum-known-n c = search needs
 
 returns : tie.Need-returns
 unfolding metresRead
@@ -50,12 +38,5 @@ pub read-metres-spec : {M : Type 1} → statement M
 read-metres-spec =
     tie.close
     (tie.spec
-    read-requires
-    enum-known-q
-    metres-at-requires
-    enum-known-q-2
-    metres-at-requires-2
-    enum-known-n
-    returns
-    returns-2
-    returns-3)
+    (λ c κs. search needs) (λ c. search needs) metres-at-requires (λ c. search needs) metres-at-requires-2 (λ c. search needs)
+    returns returns-2 returns-3)

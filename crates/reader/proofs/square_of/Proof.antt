@@ -9,14 +9,12 @@ use mir.Syntax.{w64}
 use mir.Facts.{toZ-ofZ}
 use Rattle.whole.proofs.Signed.{back}
 use Rattle.whole.proofs.Powers.{ten-le}
-use Rattle.position.specs.Squares.{countOf, halfOf, centreOf}
+use Rattle.position.specs.inner.Counts.{countOf}
+use Rattle.position.specs.Squares.{halfOf, centreOf}
 use Rattle.position.proofs.Squares.{half-is, counted, centre-at, centre-split, in-tile}
 use Rattle.reader.specs.Read.{squareOf}
 use Rattle.reader.proofs.square_of.Statement.{statement}
 use Rattle.reader.proofs.square_of.Tie as tie
-
-is-north-requires : tie.Need-is-north-requires
-is-north-requires c κs = search needs
 
 -- the digits of an axis leave its centre in the tile
 module _ (p : ℤ) (half t d : ℕ) (e : half ≡ halfOf p) (h : countOf p ≤ 11) (g : d < 10 ^ countOf p) where
@@ -57,5 +55,4 @@ returns c =
     (zone, p, back _ _ (e .centre-at .ok) (e .centre-at .ensures ∙ ap pos east), back _ _ (n .centre-at2 .ok) (n .centre-at2 .ensures ∙ ap pos north), i .is-north .ensures)
 
 pub square-of-spec : {M : Type 1} → statement M
-square-of-spec =
-    tie.close (tie.spec is-north-requires centre-at-requires centre-at-requires-2 returns)
+square-of-spec = tie.close (tie.spec (λ c κs. search needs) centre-at-requires centre-at-requires-2 returns)

@@ -7,9 +7,6 @@ use Rattle.reader.specs.Read.{tailOf}
 use Rattle.reader.proofs.tail_of.Statement.{statement}
 use Rattle.reader.proofs.tail_of.Tie as tie
 
-bare-of-requires : tie.Need-bare-of-requires
-bare-of-requires c κs = search needs
-
 returns : tie.Need-returns
 unfolding tailOf
 returns c =
@@ -19,10 +16,7 @@ returns c =
 
 returns-2 : tie.Need-returns-2
 unfolding tailOf
-returns-2 c = rw (ne-eqb _ _ (c .before .if1 .left), eq-eqb _ _ (c .if2 .taken))
-
-full-of-requires : tie.Need-full-of-requires
-full-of-requires c κs = search needs
+returns-2 c = rw (ne-eqb _ _ (c .before .if1 .left), eq-eqb _ 1 (c .if2 .taken))
 
 returns-3 : tie.Need-returns-3
 unfolding tailOf
@@ -32,4 +26,4 @@ returns-3 c =
     rw (ne-eqb _ _ (t .before .if1 .left), ne-eqb _ _ (t .if2 .left)) b
 
 pub tail-of-spec : {M : Type 1} → statement M
-tail-of-spec = tie.close (tie.spec bare-of-requires returns returns-2 full-of-requires returns-3)
+tail-of-spec = tie.close (tie.spec (λ c κs. search needs) returns returns-2 (λ c κs. search needs) returns-3)

@@ -13,7 +13,7 @@ use Rattle.whole.specs.Floor.{floorMod}
 use Rattle.whole.proofs.Parts.{up}
 use Rattle.whole.proofs.Signed.{cast-asks}
 use Rattle.whole.proofs.Small.{Small, fits, computed, between, remainder}
-use Rattle.rows.specs.Direct.{candidateFrom}
+use Rattle.rows.specs.inner.Direct.{candidateFrom}
 use Rattle.rows.proofs.Back.{base-fits, gap-fits, gap-count, gap-lt, gap-mod, candidate-fits}
 use Rattle.rows.proofs.candidate_of.Statement.{statement}
 use Rattle.rows.proofs.candidate_of.Tie as tie
@@ -44,20 +44,11 @@ gap s =
 sub-base : tie.Need-sub-base
 sub-base s = rw (low s) (base-fits (s .args .lowest) (near s))
 
-add-gap : tie.Need-add-gap
-add-gap c = search needs
-
-cast-gap : tie.Need-cast-gap
-cast-gap c = search needs
-
 sub-gap : tie.Need-sub-gap
 sub-gap s = rw (place s, base s) (gap-fits (s .args .lowest) (near s) (s .args .place) (s .pre .2))
 
 cast-result : tie.Need-cast-result
 cast-result s = cast-asks (written s) (up (between-of s)) (gap s) (gap-lt (s .args .lowest) (near s) (s .args .place) (s .pre .2))
-
-cast-result-2 : tie.Need-cast-result-2
-cast-result-2 c = search needs
 
 small : (z : ℤ) → SFits w64 (pos (floorMod z 20))
 small z = fits (remainder z (lit< tt)) (lit≤ tt)
@@ -75,6 +66,4 @@ returns : tie.Need-returns
 returns s = rw (sum s) (toZ-ofZ (candidate-fits (s .args .lowest) (near s) (s .args .place % 20)))
 
 pub candidate-of-spec : {M : Type 1} → statement M
-candidate-of-spec =
-    tie.close
-    (tie.spec sub-base add-gap cast-gap sub-gap cast-result cast-result-2 add-result returns)
+candidate-of-spec = tie.close (tie.spec sub-base (λ c. search needs) (λ c. search needs) sub-gap cast-result (λ c. search needs) add-result returns)

@@ -8,11 +8,8 @@ use Rattle.rows.proofs.fold_column.Tie as tie
 returns : tie.Need-returns
 returns c = simp (le-leb _ _ (c .if1 .taken))
 
-sub-result : tie.Need-sub-result
-sub-result c = search needs
-
 returns-2 : tie.Need-returns-2
 returns-2 c = simp (lt-leb _ _ (c .if1 .left))
 
 pub fold-column-spec : {M : Type 1} → statement M
-fold-column-spec = tie.close (tie.spec returns sub-result returns-2)
+fold-column-spec = tie.close (tie.spec returns (λ c. search needs) returns-2)

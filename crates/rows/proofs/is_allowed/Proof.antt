@@ -6,12 +6,6 @@ use Rattle.rows.specs.Allowed.{allowed}
 use Rattle.rows.proofs.is_allowed.Statement.{statement}
 use Rattle.rows.proofs.is_allowed.Tie as tie
 
-limits-of-requires : tie.Need-limits-of-requires
-limits-of-requires c κs = search needs
-
-is-allowed-by-requires : tie.Need-is-allowed-by-requires
-is-allowed-by-requires c κs = search needs
-
 returns : tie.Need-returns
 unfolding allowed
 returns c =
@@ -19,4 +13,4 @@ returns c =
     simp (toZ-ofZ (s .fits .band), toZ-ofZ (s .fits .row), c .before .limits-of .ensures) at (c .is-allowed-by .ensures)
 
 pub is-allowed-spec : {M : Type 1} → statement M
-is-allowed-spec = tie.close (tie.spec limits-of-requires is-allowed-by-requires returns)
+is-allowed-spec = tie.close (tie.spec (λ c κs. search needs) (λ c κs. search needs) returns)

@@ -10,10 +10,7 @@ use Rattle.rows.proofs.is_allowed_by.Statement.{statement}
 use Rattle.rows.proofs.is_allowed_by.Tie as tie
 
 returns : tie.Need-returns
-returns c = simp (lt-leb _ _ (c .if1 .taken))
-
-is-between-requires : tie.Need-is-between-requires
-is-between-requires c κs = search needs
+returns c = simp (lt-leb _ 7 (c .if1 .taken))
 
 is-in : (c : tie.After-is-between) → let s = c .before .before in c .is-between .result ≡ between (s .args .l) (s .args .row)
 is-in c = let s = c .before .before in simp (toZ-ofZ (s .fits .band), toZ-ofZ (s .fits .row)) at (c .is-between .ensures)
@@ -24,9 +21,6 @@ returns-2 c =
     let k : between (s .args .l) (s .args .row) ≡ true = sym (is-in (c .before)) ∙ c .if2 .taken in
     simp (le-leb _ _ (c .before .before .if1 .left), k)
 
-is-folded-requires : tie.Need-is-folded-requires
-is-folded-requires c κs = search needs
-
 returns-3 : tie.Need-returns-3
 returns-3 c =
     let t = c .before in
@@ -35,4 +29,4 @@ returns-3 c =
     (simp (toZ-ofZ (s .fits .band), toZ-ofZ (s .fits .row)) at (c .is-folded .ensures)) ∙ simp (le-leb _ _ (t .before .before .if1 .left), k)
 
 pub is-allowed-by-spec : {M : Type 1} → statement M
-is-allowed-by-spec = tie.close (tie.spec returns is-between-requires returns-2 is-folded-requires returns-3)
+is-allowed-by-spec = tie.close (tie.spec returns (λ c κs. search needs) returns-2 (λ c κs. search needs) returns-3)

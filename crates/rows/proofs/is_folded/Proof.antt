@@ -9,21 +9,6 @@ use Rattle.rows.specs.Allowed.{sameSign}
 use Rattle.rows.proofs.is_folded.Statement.{statement}
 use Rattle.rows.proofs.is_folded.Tie as tie
 
-same-sign-requires : tie.Need-same-sign-requires
-same-sign-requires c κs = search needs
-
-fold-of-requires : tie.Need-fold-of-requires
-fold-of-requires c κs = search needs
-
-fold-of-requires-2 : tie.Need-fold-of-requires-2
-fold-of-requires-2 c κs = search needs
-
-fold-column-requires : tie.Need-fold-column-requires
-fold-column-requires c κs = search needs
-
-is-case-requires : tie.Need-is-case-requires
-is-case-requires c κs = search needs
-
 sign : (c : tie.After-same-sign) → c .same-sign .result ≡ sameSign (c .before .args .band) (c .before .args .row)
 sign c = simp (toZ-ofZ (c .before .fits .band), toZ-ofZ (c .before .fits .row)) at (c .same-sign .ensures)
 
@@ -46,4 +31,8 @@ returns-2 c =
     simp k
 
 pub is-folded-spec : {M : Type 1} → statement M
-is-folded-spec = tie.close (tie.spec same-sign-requires fold-of-requires fold-of-requires-2 fold-column-requires is-case-requires returns returns-2)
+is-folded-spec =
+    tie.close
+    (tie.spec
+    (λ c κs. search needs) (λ c κs. search needs) (λ c κs. search needs) (λ c κs. search needs) (λ c κs. search needs) returns
+    returns-2)

@@ -11,9 +11,6 @@ use Rattle.rows.proofs.Period.{letter-is}
 use Rattle.rows.proofs.letter_of.Statement.{statement}
 use Rattle.rows.proofs.letter_of.Tie as tie
 
-floor-mod-requires : tie.Need-floor-mod-requires
-floor-mod-requires c κs = search needs
-
 rest : (c : tie.After-floor-mod) → c .floor-mod .result ≡ floorMod (c .before .args .row) 20
 rest c = rw (toZ-ofZ (c .before .fits .row)) at (c .floor-mod .ensures)
 
@@ -26,4 +23,4 @@ returns : tie.Need-returns
 returns c = rw (rest c) (letter-is (c .before .args .shift) (c .before .args .row))
 
 pub letter-of-spec : {M : Type 1} → statement M
-letter-of-spec = tie.close (tie.spec floor-mod-requires add-result returns)
+letter-of-spec = tie.close (tie.spec (λ c κs. search needs) add-result returns)

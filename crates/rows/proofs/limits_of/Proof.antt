@@ -13,7 +13,9 @@ use lib.Signed.{ltZ}
 use Rattle.whole.proofs.Parts.{up, dn, eq-by, lt-yes, lt-no, add-parts, sub-parts, sfits-by}
 use Rattle.whole.proofs.Small.{Small, fits}
 use Rattle.whole.proofs.Signed.{is-count}
-use Rattle.rows.specs.Limits.{limitsOf, noRows, pairOf, lowest, highest}
+use Rattle.rows.specs.Limits.{limitsOf, noRows}
+use Rattle.rows.specs.inner.Direct.{pairOf}
+use Rattle.rows.proofs.Direct.{lowest, highest}
 use Rattle.rows.proofs.Near.{past, limits-ranged}
 use Rattle.rows.proofs.limits_of.Statement.{statement}
 use Rattle.rows.proofs.limits_of.Tie as tie

@@ -7,16 +7,13 @@ use borrow.Author.Needs.{needs}
 use mir.Syntax.{w64}
 use mir.Val.{toZ, ofZ}
 use mir.Facts.{toZ-ofZ}
-use Rattle.rows.specs.Limits.{limitsOf, lowest}
+use Rattle.rows.specs.Limits.{limitsOf}
+use Rattle.rows.proofs.Direct.{lowest, candidate}
 use Rattle.rows.specs.Allowed.{allowed}
-use Rattle.rows.specs.Direct.{candidate}
 use Rattle.rows.proofs.Back.{low-back, near}
 use Rattle.rows.proofs.Theorems.{taken, not-taken}
 use Rattle.rows.proofs.row_from.Statement.{statement}
 use Rattle.rows.proofs.row_from.Tie as tie
-
-limits-of-requires : tie.Need-limits-of-requires
-limits-of-requires c κs = search needs
 
 limits : (c : tie.After-limits-of) → c .limits-of .result ≡ limitsOf (c .before .args .band)
 limits c = rw (toZ-ofZ (c .before .fits .band)) at (c .limits-of .ensures)
@@ -29,9 +26,6 @@ candidate-of-requires c κs =
     let l = c .before in
     let s = near (l .before .args .band) in
     rw (low l) (s .0, s .1, l .before .pre)
-
-is-allowed-by-requires : tie.Need-is-allowed-by-requires
-is-allowed-by-requires c κs = search needs
 
 -- the letter's place in its round
 letter : (s : tie.Start) → s .args .place % 20 < 20
@@ -63,6 +57,4 @@ returns-2 c =
     sym (not-taken (s .args .band) (s .args .column) (s .args .place % 20) (letter s) t)
 
 pub row-from-spec : {M : Type 1} → statement M
-row-from-spec =
-    tie.close
-    (tie.spec limits-of-requires candidate-of-requires is-allowed-by-requires returns returns-2)
+row-from-spec = tie.close (tie.spec (λ c κs. search needs) candidate-of-requires (λ c κs. search needs) returns returns-2)

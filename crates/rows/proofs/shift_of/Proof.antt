@@ -9,9 +9,6 @@ use Rattle.rows.specs.Letters.{shiftOf}
 use Rattle.rows.proofs.shift_of.Statement.{statement}
 use Rattle.rows.proofs.shift_of.Tie as tie
 
-floor-mod-requires : tie.Need-floor-mod-requires
-floor-mod-requires c κs = search needs
-
 parity : (c : tie.After-floor-mod) → c .floor-mod .result ≡ floorMod (c .before .args .zone) 2
 parity c = rw (toZ-ofZ (c .before .fits .zone)) at (c .floor-mod .ensures)
 
@@ -24,4 +21,4 @@ unfolding shiftOf
 returns-2 c = rw (← parity (c .before), ne-eqb _ _ (c .if1 .left))
 
 pub shift-of-spec : {M : Type 1} → statement M
-shift-of-spec = tie.close (tie.spec floor-mod-requires returns returns-2)
+shift-of-spec = tie.close (tie.spec (λ c κs. search needs) returns returns-2)

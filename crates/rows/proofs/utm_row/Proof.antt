@@ -12,9 +12,6 @@ use Rattle.rows.proofs.utm_row.Tie as tie
 returns : tie.Need-returns
 returns c = let s = c .before in sym (no-letter (s .args .band) (s .args .column) 0 (s .args .letter) (c .if1 .taken))
 
-row-from-requires : tie.Need-row-from-requires
-row-from-requires c κs = search needs
-
 returns-2 : tie.Need-returns-2
 returns-2 c =
     let s = c .before .before in
@@ -22,4 +19,4 @@ returns-2 c =
     rw (toZ-ofZ (s .fits .band), h) at (c .row-from .ensures)
 
 pub utm-row-spec : {M : Type 1} → statement M
-utm-row-spec = tie.close (tie.spec returns row-from-requires returns-2)
+utm-row-spec = tie.close (tie.spec returns (λ c κs. search needs) returns-2)

@@ -3,22 +3,13 @@
 use mathlib.Core.Path.{sym, _∙_}
 use borrow.Author.Needs.{needs}
 use mir.Facts.{toZ-ofZ}
-use Rattle.rows.specs.Direct.{unshifted}
+use Rattle.rows.proofs.Direct.{unshifted}
 use Rattle.rows.proofs.Theorems.{no-letter, shifted}
 use Rattle.rows.proofs.utm_row_at.Statement.{statement}
 use Rattle.rows.proofs.utm_row_at.Tie as tie
 
 returns : tie.Need-returns
 returns c = let s = c .before in sym (no-letter (s .args .band) (s .args .column) (s .args .shift) (s .args .letter) (c .if1 .taken))
-
-add-row-from : tie.Need-add-row-from
-add-row-from c = search needs
-
-sub-row-from : tie.Need-sub-row-from
-sub-row-from c = search needs
-
-row-from-requires : tie.Need-row-from-requires
-row-from-requires c κs = search needs
 
 returns-2 : tie.Need-returns-2
 unfolding unshifted
@@ -28,5 +19,4 @@ returns-2 c =
     ∙ sym (shifted (s .args .band) (s .args .column) (s .args .shift) (s .args .letter) (c .before .if1 .left))
 
 pub utm-row-at-spec : {M : Type 1} → statement M
-utm-row-at-spec =
-    tie.close (tie.spec returns add-row-from sub-row-from row-from-requires returns-2)
+utm-row-at-spec = tie.close (tie.spec returns (λ c. search needs) (λ c. search needs) (λ c κs. search needs) returns-2)

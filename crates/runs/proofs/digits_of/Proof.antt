@@ -9,13 +9,10 @@ use borrow.Author.Needs.{needs}
 use borrow.Author.Tests.{eq-eqb, ne-eqb, lt-ltb, le-ltb, not-true, not-false}
 use lib.ListN.{length, take, length-take}
 use Rattle.runs.specs.declared.DigitsAnswer.the-variants.{Halves}
-use Rattle.runs.specs.Runs.{allDigits}
+use Rattle.words.specs.Bytes.{allDigits}
 use Rattle.runs.specs.Digits.{digitsOf}
 use Rattle.runs.proofs.digits_of.Statement.{statement}
 use Rattle.runs.proofs.digits_of.Tie as tie
-
-all-digits-requires : tie.Need-all-digits-requires
-all-digits-requires c κs = search needs
 
 returns : tie.Need-returns
 unfolding digitsOf
@@ -31,7 +28,7 @@ returns-2 c = rw (digits (c .before), eq-eqb _ _ (c .if2 .taken))
 
 returns-3 : tie.Need-returns-3
 unfolding digitsOf
-returns-3 c = let e = c .before in rw (digits (e .before), ne-eqb _ _ (e .if2 .left), lt-ltb _ _ (c .if3 .taken))
+returns-3 c = let e = c .before in rw (digits (e .before), ne-eqb _ _ (e .if2 .left), lt-ltb 22 _ (c .if3 .taken))
 
 two-halves-requires : tie.Need-two-halves-requires
 two-halves-requires c κs = (omega (arith, c .before .if2 .left), omega (arith, c .if3 .left), digits (c .before .before))
@@ -47,6 +44,4 @@ returns-4 c =
     (ap Halves (rw (few (e .before .before .before .before .before .args .s .now)) at (c .two-halves .ensures)))
 
 pub digits-of-spec : {M : Type 1} → statement M
-digits-of-spec =
-    tie.close
-    (tie.spec all-digits-requires returns returns-2 returns-3 two-halves-requires returns-4)
+digits-of-spec = tie.close (tie.spec (λ c κs. search needs) returns returns-2 returns-3 two-halves-requires returns-4)

@@ -5,7 +5,7 @@ use Prim.Native.Nat.{ℕ, _+_, _*_, _/_}
 use native.Mathlib.Omega.{arith}
 use borrow.Author.Needs.{needs}
 use lib.Bits.{bitAnd, and-le-r}
-use Rattle.runs.specs.Words.{eightOf}
+use Rattle.runs.specs.inner.Eight.{eightOf}
 use Rattle.runs.proofs.eight_value.Statement.{statement}
 use Rattle.runs.proofs.eight_value.Tie as tie
 
@@ -14,12 +14,6 @@ twos-of w = w * 10 + w / 256
 
 abbrev fours-of : ℕ → ℕ
 fours-of w = bitAnd (twos-of w) 71777214294589695 * 100 + bitAnd (twos-of w) 71777214294589695 / 65536
-
-mul-twos : tie.Need-mul-twos
-mul-twos c = search needs
-
-add-twos : tie.Need-add-twos
-add-twos c = search needs
 
 mul-fours : tie.Need-mul-fours
 mul-fours c = omega (arith, and-le-r (twos-of (c .args .w)) 71777214294589695)
@@ -38,4 +32,4 @@ unfolding eightOf
 returns c = refl
 
 pub eight-value-spec : {M : Type 1} → statement M
-eight-value-spec = tie.close (tie.spec mul-twos add-twos mul-fours add-fours mul-result add-result returns)
+eight-value-spec = tie.close (tie.spec (λ c. search needs) (λ c. search needs) mul-fours add-fours mul-result add-result returns)

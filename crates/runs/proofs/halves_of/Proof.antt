@@ -13,8 +13,9 @@ use lib.Seq.{drop-cons}
 use mir.Syntax.{w64}
 use mir.Facts.{toZ-pos}
 use Rattle.whole.proofs.Powers.{ten-le}
-use Rattle.runs.specs.Runs.{allDigits, valueFrom, valueOf}
-use Rattle.runs.proofs.Laws.{digit-range, digit-at}
+use Rattle.words.specs.Bytes.{allDigits}
+use Rattle.runs.specs.Runs.{valueFrom, valueOf}
+use Rattle.words.proofs.Laws.{digit-range, digit-at}
 use Rattle.runs.proofs.halves_of.Statement.{statement}
 use Rattle.runs.proofs.halves_of.Tie as tie
 
@@ -46,9 +47,6 @@ module _ (s : List ℕ) (i x : ℕ) (far : So-far s i x) where
 loop-holds : tie.Need-loop-holds Inv-loop μ-loop
 loop-holds c = (search needs, (search needs, refl), (search needs, refl))
 
-shared-slice-read-then-digit : tie.Need-shared-slice-read-then-digit Inv-loop μ-loop
-shared-slice-read-then-digit c = search needs
-
 then-digit-requires : tie.Need-then-digit-requires Inv-loop μ-loop
 then-digit-requires c κs =
     let t = c .before in
@@ -56,21 +54,12 @@ then-digit-requires c κs =
     let s = l .before .before .before in
     (short _ _ _ (l .loop .inv .1) _ (s .pre .1) (l .loop .inv .0), digit-at _ _ (s .pre .2) (t .loop-test .taken))
 
-shared-slice-read-then-digit-2 : tie.Need-shared-slice-read-then-digit-2 Inv-loop μ-loop
-shared-slice-read-then-digit-2 c = search needs
-
 then-digit-requires-2 : tie.Need-then-digit-requires-2 Inv-loop μ-loop
 then-digit-requires-2 c κs =
     let t = c .before .before .before in
     let l = t .before in
     let s = l .before .before .before in
     (short _ _ _ (l .loop .inv .2) _ (s .pre .1) (l .loop .inv .0), digit-at _ _ (s .pre .3) (omega (arith, t .loop-test .taken, s .pre .0)))
-
-add-i : tie.Need-add-i Inv-loop μ-loop
-add-i c = search needs
-
-loop-less : tie.Need-loop-less Inv-loop μ-loop
-loop-less c = search needs
 
 loop-again : tie.Need-loop-again Inv-loop μ-loop
 loop-again c =
@@ -80,9 +69,6 @@ loop-again c =
     let h = t .loop-test .taken in
     rw (c .before .before .then-digit .ensures, c .then-digit2 .ensures)
     (omega (arith, h), turn _ _ _ (l .loop .inv .1) (s .pre .2) h, turn _ _ _ (l .loop .inv .2) (s .pre .3) (omega (arith, h, s .pre .0)))
-
-cast-p : tie.Need-cast-p Inv-loop μ-loop
-cast-p c = search needs
 
 returns : tie.Need-returns Inv-loop μ-loop
 returns c =
@@ -96,15 +82,5 @@ pub halves-of-spec : {M : Type 1} → statement M
 halves-of-spec =
     tie.close
     (tie.spec
-    Inv-loop
-    μ-loop
-    loop-holds
-    shared-slice-read-then-digit
-    then-digit-requires
-    shared-slice-read-then-digit-2
-    then-digit-requires-2
-    add-i
-    loop-less
-    loop-again
-    cast-p
-    returns)
+    Inv-loop μ-loop loop-holds (λ c. search needs) then-digit-requires (λ c. search needs) then-digit-requires-2
+    (λ c. search needs) (λ c. search needs) loop-again (λ c. search needs) returns)

@@ -8,7 +8,8 @@ use native.Mathlib.Omega.{arith}
 use borrow.Author.Needs.{needs}
 use lib.ListN.{length, take, drop, length-drop}
 use lib.Seq.{drop-drop}
-use Rattle.runs.specs.Runs.{allDigits, valueOf}
+use Rattle.words.specs.Bytes.{allDigits}
+use Rattle.runs.specs.Runs.{valueOf}
 use Rattle.runs.proofs.Eights.{long-first, long-last, long-is, long-lt}
 use Rattle.runs.proofs.long_value.Statement.{statement}
 use Rattle.runs.proofs.long_value.Tie as tie
@@ -36,9 +37,6 @@ first-value-requires c κs =
     let p = s .pre in
     (omega arith, p .1, omega arith, first (s .args .s .now) (s .args .i) (s .args .more) (p .0) (p .2) (p .3))
 
-add-first-value : tie.Need-add-first-value
-add-first-value c = search needs
-
 first-value-requires-2 : tie.Need-first-value-requires-2
 first-value-requires-2 c κs =
     let s = c .before .before in
@@ -64,12 +62,4 @@ returns c =
     sum-is (s .args .s .now) (s .args .i) (s .args .more) (p .0) (p .2) (p .3) _ _ (c .before .first-value .ensures) (c .first-value2 .ensures)
 
 pub long-value-spec : {M : Type 1} → statement M
-long-value-spec =
-    tie.close
-    (tie.spec
-    first-value-requires
-    add-first-value
-    first-value-requires-2
-    mul-result
-    add-result
-    returns)
+long-value-spec = tie.close (tie.spec first-value-requires (λ c. search needs) first-value-requires-2 mul-result add-result returns)

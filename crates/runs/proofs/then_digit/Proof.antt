@@ -1,7 +1,7 @@
 -- `runs::then_digit` meets its contract: a digit's byte is 48 to 57, the rest is arithmetic.
 -- Assumes nothing.
 use native.Mathlib.Omega.{arith}
-use Rattle.runs.proofs.Laws.{digit-range}
+use Rattle.words.proofs.Laws.{digit-range}
 use Rattle.runs.proofs.then_digit.Statement.{statement}
 use Rattle.runs.proofs.then_digit.Tie as tie
 

@@ -11,9 +11,9 @@ use mir.Syntax.{w64}
 use mir.Val.{toZ}
 use mir.Facts.{toZ-pos}
 use Rattle.runs.specs.Runs.{valueOf}
-use Rattle.runs.specs.Digits.{halvesOf}
+use Rattle.runs.specs.inner.Eight.{halvesOf}
 use Rattle.runs.specs.declared.Digits.{Digits}
-use Rattle.runs.proofs.Laws.{all-front, all-rest, all-part, rest}
+use Rattle.words.proofs.Laws.{all-front, all-rest, all-part, rest}
 use Rattle.runs.proofs.two_halves.Statement.{statement}
 use Rattle.runs.proofs.two_halves.Tie as tie
 
@@ -45,15 +45,6 @@ module _ (s : List ℕ) (n : ℕ) (e : length s ≡ n + n) where
 slice-aggregate-halves-of : tie.Need-slice-aggregate-halves-of
 slice-aggregate-halves-of c = let s = c .before .before .before in sym (half-long _ _ (s .pre .0))
 
-sub-halves-of : tie.Need-sub-halves-of
-sub-halves-of c = search needs
-
-part-halves-of-start : tie.Need-part-halves-of-start
-part-halves-of-start c = search needs
-
-part-halves-of-end : tie.Need-part-halves-of-end
-part-halves-of-end c = search needs
-
 halves-of-requires : tie.Need-halves-of-requires
 halves-of-requires c κs =
     let s = c .before .before .before .before in
@@ -64,19 +55,10 @@ halves-of-requires c κs =
 returns : tie.Need-returns
 returns c = let s = c .before .before .before .before .before in rw (rest (s .args .s .now) (s .args .half)) at (c .halves-of .ensures)
 
-cast-p : tie.Need-cast-p
-cast-p c = search needs
-
-sub-long-value : tie.Need-sub-long-value
-sub-long-value c = search needs
-
 long-value-requires : tie.Need-long-value-requires
 long-value-requires c κs =
     let s = c .before .before .before in
     (omega arith, omega arith, omega arith, all-part _ 0 (s .args .half - 8 + 8) (s .pre .2))
-
-sub-long-value-2 : tie.Need-sub-long-value-2
-sub-long-value-2 c = search needs
 
 long-value-requires-2 : tie.Need-long-value-requires-2
 long-value-requires-2 c κs =
@@ -95,12 +77,6 @@ first-value-requires : tie.Need-first-value-requires
 first-value-requires c κs =
     let s = c .before .before .before in
     (omega arith, omega arith, omega arith, all-part _ 0 8 (s .pre .2))
-
-add-last-value : tie.Need-add-last-value
-add-last-value c = search needs
-
-sub-last-value : tie.Need-sub-last-value
-sub-last-value c = search needs
 
 last-value-requires : tie.Need-last-value-requires
 last-value-requires c κs =
@@ -121,20 +97,6 @@ pub two-halves-spec : {M : Type 1} → statement M
 two-halves-spec =
     tie.close
     (tie.spec
-    slice-aggregate-halves-of
-    sub-halves-of
-    part-halves-of-start
-    part-halves-of-end
-    halves-of-requires
-    returns
-    cast-p
-    sub-long-value
-    long-value-requires
-    sub-long-value-2
-    long-value-requires-2
-    returns-2
-    first-value-requires
-    add-last-value
-    sub-last-value
-    last-value-requires
-    returns-3)
+    slice-aggregate-halves-of (λ c. search needs) (λ c. search needs) (λ c. search needs) halves-of-requires returns
+    (λ c. search needs) (λ c. search needs) long-value-requires (λ c. search needs) long-value-requires-2 returns-2
+    first-value-requires (λ c. search needs) (λ c. search needs) last-value-requires returns-3)

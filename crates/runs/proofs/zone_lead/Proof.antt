@@ -2,11 +2,11 @@
 -- 60 never shrinks. Assumes nothing.
 use mathlib.Core.Path.{_≡_, sym, _∙_}
 use mathlib.Core.List.{List, [], _∷_}
-use Prim.Native.Nat.{ℕ, _+_, _-_, _*_, _≤_, _<_, min}
+use Prim.Native.Nat.{ℕ, _+_, _-_, _*_, _≤_, _<_}
 use native.Mathlib.Nat.{zero-add, add-zero}
 use native.Mathlib.Omega.{arith}
 use borrow.Author.Needs.{needs}
-use borrow.Author.Tests.{not-true, not-false, le-ltb}
+use borrow.Author.Tests.{not-true, not-false, le-ltb, lt-ltb}
 use lib.ListN.{length, drop}
 use Rattle.runs.specs.declared.Lead.{Lead}
 use Rattle.runs.specs.declared.ZoneLead.the-variants.{Led, Past}
@@ -17,7 +17,7 @@ use Rattle.runs.proofs.zone_lead.Tie as tie
 
 -- n digits before these, of the value v
 unfoldable after : ℕ → ℕ → List ℕ → Lead
-after n v ds = record { count = n + length ds; value = min 61 (valueFrom v ds) }
+after n v ds = record { count = n + length ds; value = valueFrom v ds }
 
 abbrev Inv-loop : tie.InvT-loop
 Inv-loop s count₀ value₀ count value = (value ≤ 60) × (leadOf s ≡ after count value (leadingDigits (drop count s)))
@@ -28,9 +28,7 @@ abbrev μ-loop : tie.MeasureT-loop
 -- no digit is left
 done : (s : List ℕ) (n v : ℕ) (ds : List ℕ) → v ≤ 60 → ds ≡ [] → leadOf s ≡ after n v ds → Led (record { count = n; value = v }) ≡ zoneLead s
 unfolding after valueFrom zoneLead
-done s n v ds h e l =
-    let k : min 61 v ≡ v = omega arith in
-    sym (rw (l, e, k, add-zero n, le-ltb 60 v h))
+done s n v ds h e l = sym (rw (l, e, add-zero n, le-ltb 60 v h))
 
 -- one digit more
 turn : (n v x : ℕ) (ds es : List ℕ) → ds ≡ x ∷ es → after n v ds ≡ after (n + 1) (v * 10 + (x - 48)) es
@@ -40,19 +38,11 @@ turn n v x ds es e = let k : n + length (x ∷ es) ≡ n + 1 + length es = omega
 -- too large a value
 large : (s : List ℕ) (n v : ℕ) (ds : List ℕ) → 60 < v → leadOf s ≡ after n v ds → Past ≡ zoneLead s
 unfolding after zoneLead
-large s n v ds h l =
-    let k : min 61 (valueFrom v ds) ≡ 61 = omega (arith, grows ds v) in
-    sym (rw (l, k))
+large s n v ds h l = sym (rw (l, lt-ltb 60 (valueFrom v ds) (omega (arith, grows ds v))))
 
 loop-holds : tie.Need-loop-holds Inv-loop μ-loop
 unfolding leadOf after
 loop-holds c = (search needs, rw (zero-add))
-
-shared-slice-read-b : tie.Need-shared-slice-read-b Inv-loop μ-loop
-shared-slice-read-b c = search needs
-
-is-digit-requires : tie.Need-is-digit-requires Inv-loop μ-loop
-is-digit-requires c κs = search needs
 
 returns : tie.Need-returns Inv-loop μ-loop
 returns c =
@@ -75,12 +65,6 @@ step c =
 returns-2 : tie.Need-returns-2 Inv-loop μ-loop
 returns-2 c = large _ _ _ _ (c .if2 .taken) (step (c .before))
 
-add-count : tie.Need-add-count Inv-loop μ-loop
-add-count c = search needs
-
-loop-less : tie.Need-loop-less Inv-loop μ-loop
-loop-less c = search needs
-
 loop-again : tie.Need-loop-again Inv-loop μ-loop
 loop-again c = (c .if2 .left, step (c .before))
 
@@ -91,15 +75,5 @@ pub zone-lead-spec : {M : Type 1} → statement M
 zone-lead-spec =
     tie.close
     (tie.spec
-    Inv-loop
-    μ-loop
-    loop-holds
-    shared-slice-read-b
-    is-digit-requires
-    returns
-    then-digit-requires
-    returns-2
-    add-count
-    loop-less
-    loop-again
-    returns-3)
+    Inv-loop μ-loop loop-holds (λ c. search needs) (λ c κs. search needs) returns then-digit-requires returns-2
+    (λ c. search needs) (λ c. search needs) loop-again returns-3)

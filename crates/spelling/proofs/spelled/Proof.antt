@@ -6,12 +6,6 @@ use Rattle.spelling.proofs.Ones.{digits, ones-is, fours-lt, high-le, tw
 use Rattle.spelling.proofs.spelled.Statement.{statement}
 use Rattle.spelling.proofs.spelled.Tie as tie
 
-mul-fours : tie.Need-mul-fours
-mul-fours c = search needs
-
-add-fours : tie.Need-add-fours
-add-fours c = search needs
-
 mul-high : tie.Need-mul-high
 mul-high c = let q = digits (c .args .x) in omega (arith, fours-lt _ _ q)
 
@@ -52,17 +46,5 @@ pub spelled-spec : {M : Type 1} → statement M
 spelled-spec =
     tie.close
     (tie.spec
-    mul-fours
-    add-fours
-    mul-high
-    mul-twos
-    sub-twos
-    mul-twos-2
-    add-twos
-    mul-tens
-    mul-result
-    sub-result
-    mul-result-2
-    add-result
-    add-result-2
-    returns)
+    (λ c. search needs) (λ c. search needs) mul-high mul-twos sub-twos mul-twos-2 add-twos mul-tens mul-result sub-result
+    mul-result-2 add-result add-result-2 returns)

@@ -9,54 +9,6 @@ use borrow.Author.Needs.{needs}
 use Rattle.squares.proofs.covers.Statement.{statement}
 use Rattle.squares.proofs.covers.Tie as tie
 
-read-requires : tie.Need-read-requires
-read-requires c κs = search needs
-
-enum-known-k : tie.Need-enum-known-k
-enum-known-k c = search needs
-
-enum-known-x : tie.Need-enum-known-x
-enum-known-x c = search needs
-
-read-requires-2 : tie.Need-read-requires-2
-read-requires-2 c κs = search needs
-
-enum-known-k-2 : tie.Need-enum-known-k-2
-enum-known-k-2 c = search needs
-
-enum-known-y : tie.Need-enum-known-y
-enum-known-y c = search needs
-
-is-same-area-requires : tie.Need-is-same-area-requires
-is-same-area-requires c κs = search needs
-
-verdict-of-requires : tie.Need-verdict-of-requires
-verdict-of-requires c κs = search needs
-
-enum-known-y-2 : tie.Need-enum-known-y-2
-enum-known-y-2 c = search needs
-
-is-same-area-requires-2 : tie.Need-is-same-area-requires-2
-is-same-area-requires-2 c κs = search needs
-
-verdict-of-requires-2 : tie.Need-verdict-of-requires-2
-verdict-of-requires-2 c κs = search needs
-
-enum-known-x-2 : tie.Need-enum-known-x-2
-enum-known-x-2 c = search needs
-
-read-requires-3 : tie.Need-read-requires-3
-read-requires-3 c κs = search needs
-
-enum-known-k-3 : tie.Need-enum-known-k-3
-enum-known-k-3 c = search needs
-
-enum-told : tie.Need-enum-told
-enum-told c = search needs
-
-enum-known-y-3 : tie.Need-enum-known-y-3
-enum-known-y-3 c = search needs
-
 is-covering-requires : tie.Need-is-covering-requires
 is-covering-requires c κs =
     let y = c .before in
@@ -67,9 +19,6 @@ is-covering-requires c κs =
     let a = square-near (s .args .a .now) _ (sym (m .read .ensures) ∙ x .x2 .given .1) in
     let b = square-near (s .args .b .now) _ (sym (n .read3 .ensures) ∙ y .y3 .given .1) in
     (small-exact _ (a .east), small-exact _ (a .north), small-exact _ (b .east), small-exact _ (b .north))
-
-verdict-of-requires-3 : tie.Need-verdict-of-requires-3
-verdict-of-requires-3 c κs = search needs
 
 returns : tie.Need-returns
 returns c =
@@ -141,28 +90,8 @@ pub covers-spec : {M : Type 1} → statement M
 covers-spec =
     tie.close
     (tie.spec
-    read-requires
-    enum-known-k
-    enum-known-x
-    read-requires-2
-    enum-known-k-2
-    enum-known-y
-    is-same-area-requires
-    verdict-of-requires
-    enum-known-y-2
-    is-same-area-requires-2
-    verdict-of-requires-2
-    enum-known-x-2
-    read-requires-3
-    enum-known-k-3
-    enum-told
-    enum-known-y-3
-    is-covering-requires
-    verdict-of-requires-3
-    returns
-    returns-2
-    returns-3
-    returns-4
-    returns-5
-    returns-6
+    (λ c κs. search needs) (λ c. search needs) (λ c. search needs) (λ c κs. search needs) (λ c. search needs)
+    (λ c. search needs) (λ c κs. search needs) (λ c κs. search needs) (λ c. search needs) (λ c κs. search needs)
+    (λ c κs. search needs) (λ c. search needs) (λ c κs. search needs) (λ c. search needs) (λ c. search needs)
+    (λ c. search needs) is-covering-requires (λ c κs. search needs) returns returns-2 returns-3 returns-4 returns-5 returns-6
     returns-7)

@@ -1,5 +1,7 @@
 -- `squares::is_axis_within` meets its contract, by what corners and sides ensure.
 -- Assumes nothing.
+use mathlib.Core.Bool.{true}
+use lib.Signed.{leZ}
 use mathlib.Core.Path.{_≡_}
 use native.Mathlib.Omega.{arith}
 use lib.IntN.{pos, _+ℤ_}
@@ -13,15 +15,6 @@ use Rattle.squares.proofs.Sizes.{side-le, edge-fits}
 use borrow.Author.Needs.{needs}
 use Rattle.squares.proofs.is_axis_within.Statement.{statement}
 use Rattle.squares.proofs.is_axis_within.Tie as tie
-
-corner-of-requires : tie.Need-corner-of-requires
-corner-of-requires c κs = search needs
-
-corner-of-requires-2 : tie.Need-corner-of-requires-2
-corner-of-requires-2 c κs = search needs
-
-side-length-requires : tie.Need-side-length-requires
-side-length-requires c κs = search needs
 
 -- the corners and the sides, as they are read back
 outer : (c : tie.After-corner-of) → toZ w64 (ofZ w64 (c .corner-of .result)) ≡ cornerOf (c .before .args .p) (c .before .args .c)
@@ -61,9 +54,6 @@ cast-result c = let h = side-le (c .before .before .before .before .args .r) in 
 add-result : tie.Need-add-result
 add-result c = rw (inner-edge c) (edge-fits _ _ (c .before .before .before .before .pre .1))
 
-side-length-requires-2 : tie.Need-side-length-requires-2
-side-length-requires-2 c κs = search needs
-
 cast-result-2 : tie.Need-cast-result-2
 cast-result-2 c = let h = side-le (c .before .before .before .before .before .args .p) in record { sfits = rw (outer-side c) (omega arith) }
 
@@ -78,7 +68,7 @@ returns c =
     let n = t .before in
     let o = n .before in
     let s = o .before in
-    let k = rw (outer o, inner n) at (t .if1 .taken) in
+    let k : leZ (cornerOf (s .args .p) (s .args .c)) (cornerOf (s .args .r) (s .args .d)) ≡ true = rw (outer o, inner n) at (t .if1 .taken) in
     rw (inner-edge i, outer-edge c, toZ-ofZ (edge-fits (s .args .r) (s .args .d) (s .pre .1)), toZ-ofZ (edge-fits (s .args .p) (s .args .c) (s .pre .0)), k)
 
 returns-2 : tie.Need-returns-2
@@ -89,13 +79,5 @@ pub is-axis-within-spec : {M : Type 1} → statement M
 is-axis-within-spec =
     tie.close
     (tie.spec
-    corner-of-requires
-    corner-of-requires-2
-    side-length-requires
-    cast-result
-    add-result
-    side-length-requires-2
-    cast-result-2
-    add-result-2
-    returns
-    returns-2)
+    (λ c κs. search needs) (λ c κs. search needs) (λ c κs. search needs) cast-result add-result (λ c κs. search needs)
+    cast-result-2 add-result-2 returns returns-2)

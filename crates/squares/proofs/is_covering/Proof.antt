@@ -5,12 +5,6 @@ use borrow.Author.Needs.{needs}
 use Rattle.squares.proofs.is_covering.Statement.{statement}
 use Rattle.squares.proofs.is_covering.Tie as tie
 
-is-same-area-requires : tie.Need-is-same-area-requires
-is-same-area-requires c κs = search needs
-
-is-square-within-requires : tie.Need-is-square-within-requires
-is-square-within-requires c κs = search needs
-
 returns : tie.Need-returns
 returns c = let t = c .before in rw (sym (t .before .is-same-area .ensures) ∙ t .if1 .taken, c .is-square-within .ensures)
 
@@ -18,5 +12,4 @@ returns-2 : tie.Need-returns-2
 returns-2 c = rw (sym (c .before .is-same-area .ensures) ∙ c .if1 .left)
 
 pub is-covering-spec : {M : Type 1} → statement M
-is-covering-spec =
-    tie.close (tie.spec is-same-area-requires is-square-within-requires returns returns-2)
+is-covering-spec = tie.close (tie.spec (λ c κs. search needs) (λ c κs. search needs) returns returns-2)

@@ -7,9 +7,6 @@ use borrow.Author.Needs.{needs}
 use Rattle.squares.proofs.is_same_area.Statement.{statement}
 use Rattle.squares.proofs.is_same_area.Tie as tie
 
-is-same-requires : tie.Need-is-same-requires
-is-same-requires c κs = search needs
-
 returns : tie.Need-returns
 unfolding sameArea
 returns c =
@@ -19,4 +16,4 @@ returns c =
     rw (toZ-ofZ {w = w64} {z = s .args .a .zone} (record { sfits = a .struct-told .given .1 .0 .1 }), toZ-ofZ {w = w64} {z = s .args .b .zone} (record { sfits = b .struct-told2 .given .1 .0 .1 })) at (c .is-same .ensures)
 
 pub is-same-area-spec : {M : Type 1} → statement M
-is-same-area-spec = tie.close (tie.spec is-same-requires returns)
+is-same-area-spec = tie.close (tie.spec (λ c κs. search needs) returns)

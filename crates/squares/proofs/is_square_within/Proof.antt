@@ -8,12 +8,6 @@ use borrow.Author.Needs.{needs}
 use Rattle.squares.proofs.is_square_within.Statement.{statement}
 use Rattle.squares.proofs.is_square_within.Tie as tie
 
-is-axis-within-requires : tie.Need-is-axis-within-requires
-is-axis-within-requires c κs = search needs
-
-is-axis-within-requires-2 : tie.Need-is-axis-within-requires-2
-is-axis-within-requires-2 c κs = search needs
-
 east : (c : tie.After-is-axis-within) → let s = c .before .before .before .before .before in c .is-axis-within .result ≡ axisWithin (s .args .a .p) (s .args .a .easting) (s .args .b .p) (s .args .b .easting)
 east c =
     let s = c .before .before .before .before .before in
@@ -37,5 +31,4 @@ unfolding squareWithin
 returns-2 c = rw (sym (east (c .before)) ∙ c .if1 .left)
 
 pub is-square-within-spec : {M : Type 1} → statement M
-is-square-within-spec =
-    tie.close (tie.spec is-axis-within-requires is-axis-within-requires-2 returns returns-2)
+is-square-within-spec = tie.close (tie.spec (λ c κs. search needs) (λ c κs. search needs) returns returns-2)

@@ -7,21 +7,6 @@ use borrow.Author.Needs.{needs}
 use Rattle.squares.proofs.shorten.Statement.{statement}
 use Rattle.squares.proofs.shorten.Tie as tie
 
-read-requires : tie.Need-read-requires
-read-requires c κs = search needs
-
-enum-known-k : tie.Need-enum-known-k
-enum-known-k c = search needs
-
-enum-told : tie.Need-enum-told
-enum-told c = search needs
-
-enum-known-x : tie.Need-enum-known-x
-enum-known-x c = search needs
-
-shorten-square-requires : tie.Need-shorten-square-requires
-shorten-square-requires c κs = search needs
-
 returns : tie.Need-returns
 returns c =
     let k = c .before in
@@ -35,9 +20,6 @@ returns-2 c =
     let s = m .before .before .before in
     short-by (s .args .text .now) (s .args .q) (s .args .out .now) _ _ _ (sym (m .read .ensures) ∙ c .enum-told .given .1) (refl, refl)
 
-same-length : tie.Need-same-length
-same-length c = search needs
-
 returns-3 : tie.Need-returns-3
 returns-3 c =
     let d = c .before .before in
@@ -50,12 +32,5 @@ pub shorten-spec : {M : Type 1} → statement M
 shorten-spec =
     tie.close
     (tie.spec
-    read-requires
-    enum-known-k
-    enum-told
-    enum-known-x
-    shorten-square-requires
-    returns
-    returns-2
-    same-length
-    returns-3)
+    (λ c κs. search needs) (λ c. search needs) (λ c. search needs) (λ c. search needs) (λ c κs. search needs) returns returns-2
+    (λ c. search needs) returns-3)

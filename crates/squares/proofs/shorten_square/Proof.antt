@@ -10,9 +10,6 @@ use borrow.Author.Needs.{needs}
 use Rattle.squares.proofs.shorten_square.Statement.{statement}
 use Rattle.squares.proofs.shorten_square.Tie as tie
 
-is-outside-requires : tie.Need-is-outside-requires
-is-outside-requires c κs = search needs
-
 test : (c : tie.After-is-outside) → let s = c .before .before .before in c .is-outside .result ≡ outside (pos 0) (s .args .x .p) (s .args .q)
 test c =
     let s = c .before .before .before in
@@ -20,15 +17,6 @@ test c =
 
 returns : tie.Need-returns
 returns c = rw (sym (test (c .before)) ∙ c .if1 .taken) (refl, refl)
-
-south-west-requires : tie.Need-south-west-requires
-south-west-requires c κs = search needs
-
-write-requires : tie.Need-write-requires
-write-requires c κs = search needs
-
-same-length : tie.Need-same-length
-same-length c = search needs
 
 returns-2 : tie.Need-returns-2
 unfolding cornerWritten cornerLeaves
@@ -48,6 +36,4 @@ returns-2 c =
     rw (sym (test (t .before)) ∙ t .if1 .left) r
 
 pub shorten-square-spec : {M : Type 1} → statement M
-shorten-square-spec =
-    tie.close
-    (tie.spec is-outside-requires returns south-west-requires write-requires same-length returns-2)
+shorten-square-spec = tie.close (tie.spec (λ c κs. search needs) returns (λ c κs. search needs) (λ c κs. search needs) (λ c. search needs) returns-2)

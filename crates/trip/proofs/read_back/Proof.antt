@@ -13,18 +13,6 @@ use borrow.Author.Needs.{needs}
 use Rattle.trip.proofs.read_back.Statement.{statement}
 use Rattle.trip.proofs.read_back.Tie as tie
 
-slice-aggregate-write : tie.Need-slice-aggregate-write
-slice-aggregate-write c = search needs
-
-write-requires : tie.Need-write-requires
-write-requires c κs = search needs
-
-enum-known-k : tie.Need-enum-known-k
-enum-known-k c = search needs
-
-enum-known-n : tie.Need-enum-known-n
-enum-known-n c = search needs
-
 answer : (c : tie.After-write) → let s = c .before .before in c .write .result ≡ writeOf (s .args .zone) (s .args .north) (s .args .band) (s .args .p) (s .args .easting) (s .args .northing) 27
 answer c =
     let s = c .before .before in
@@ -46,9 +34,6 @@ slice-aggregate-read c =
     let l = c .before .before .before .before .before .write .kept .1 .1 .1 .1 .1 .1 .0 in
     simp length-take (omega arith)
 
-read-requires : tie.Need-read-requires
-read-requires c κs = search needs
-
 returns : tie.Need-returns
 returns c =
     let k = c .before in
@@ -68,12 +53,5 @@ pub read-back-spec : {M : Type 1} → statement M
 read-back-spec =
     tie.close
     (tie.spec
-    slice-aggregate-write
-    write-requires
-    enum-known-k
-    enum-known-n
-    array-share-prefix-out
-    slice-aggregate-read
-    read-requires
-    returns
-    returns-2)
+    (λ c. search needs) (λ c κs. search needs) (λ c. search needs) (λ c. search needs) array-share-prefix-out
+    slice-aggregate-read (λ c κs. search needs) returns returns-2)

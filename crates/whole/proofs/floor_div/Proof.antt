@@ -32,17 +32,14 @@ minus : (n : ℕ) → negsuc 0 -ℤ pos n ≡ negsuc n
 unfolding up dn
 minus n = eq-by _ _ (omega (arith, sub-parts (negsuc 0) (pos n)))
 
+less : (n : ℕ) → SFits w64 (negsuc n) → SFits w64 (negsuc 0 -ℤ pos n)
+less n f = rw (minus n) f
+
 below-fits : (x : ℤ) (d : ℕ) → SFits w64 x → SFits w64 (negsuc (fold x / d))
 below-fits x d f = record { sfits = quotient-fits x d f .sfits }
 
 returns : tie.Need-returns
 returns c = sym (by-zero (c .before .args .x) (c .before .args .d) (c .if1 .taken) .0)
-
-fold-of-requires : tie.Need-fold-of-requires
-fold-of-requires c κs = search needs
-
-div-q : tie.Need-div-q
-div-q c = search needs
 
 cast-q : tie.Need-cast-q
 cast-q c =
@@ -52,7 +49,7 @@ cast-q c =
 sub-result : tie.Need-sub-result
 sub-result c =
     let s = c .before .before .before in
-    rw (quotient (c .before), minus (fold (s .args .x) / s .args .d)) (below-fits (s .args .x) (s .args .d) (s .fits .x))
+    rw (quotient (c .before)) (less _ (below-fits (s .args .x) (s .args .d) (s .fits .x)))
 
 returns-2 : tie.Need-returns-2
 returns-2 c =
@@ -67,5 +64,4 @@ returns-3 c =
     quotient (c .before) ∙ sym (above (s .args .x) (search needs) (rw (toZ-ofZ (s .fits .x)) at (c .if2 .left)) .0)
 
 pub floor-div-spec : {M : Type 1} → statement M
-floor-div-spec =
-    tie.close (tie.spec returns fold-of-requires div-q cast-q sub-result returns-2 returns-3)
+floor-div-spec = tie.close (tie.spec returns (λ c κs. search needs) (λ c. search needs) cast-q sub-result returns-2 returns-3)

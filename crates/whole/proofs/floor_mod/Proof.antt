@@ -17,15 +17,6 @@ folded c = rw (toZ-ofZ (c .before .before .fits .x)) at (c .fold-of .ensures)
 returns : tie.Need-returns
 returns c = sym (by-zero (c .before .args .x) (c .before .args .d) (c .if1 .taken) .1)
 
-fold-of-requires : tie.Need-fold-of-requires
-fold-of-requires c κs = search needs
-
-rem-m : tie.Need-rem-m
-rem-m c = search needs
-
-sub-result : tie.Need-sub-result
-sub-result c = search needs
-
 sub-result-2 : tie.Need-sub-result-2
 sub-result-2 c =
     let s = c .before .before .before in
@@ -43,5 +34,4 @@ returns-3 c =
     rw (folded (c .before)) (sym (above (s .args .x) (search needs) (rw (toZ-ofZ (s .fits .x)) at (c .if2 .left)) .1))
 
 pub floor-mod-spec : {M : Type 1} → statement M
-floor-mod-spec =
-    tie.close (tie.spec returns fold-of-requires rem-m sub-result sub-result-2 returns-2 returns-3)
+floor-mod-spec = tie.close (tie.spec returns (λ c κs. search needs) (λ c. search needs) (λ c. search needs) sub-result-2 returns-2 returns-3)

@@ -35,7 +35,9 @@ kept : (c : tie.Else1) → toZ w64 (ofZ w64 (c .before .args .v)) ≡ pos (fold 
 kept c = toZ-ofZ (c .before .fits .v) ∙ above (c .before .args .v) (rw (toZ-ofZ (c .before .fits .v)) at (c .if1 .left))
 
 sub-result : tie.Need-sub-result
-sub-result c = rw (toZ-ofZ (c .before .fits .v), folded c) (fold-lt w64 (c .before .args .v) (c .before .fits .v))
+sub-result c =
+    let f : SFits w64 (negsuc 0 -ℤ c .before .args .v) = rw (folded c) (fold-lt w64 (c .before .args .v) (c .before .fits .v)) in
+    rw (toZ-ofZ (c .before .fits .v)) f
 
 cast-result : tie.Need-cast-result
 cast-result c =

@@ -1,5 +1,8 @@
 -- `whole::is_outside` meets its contract: each return follows from the test on the way.
 -- Assumes nothing.
+use mathlib.Core.Path.{_≡_}
+use mathlib.Core.Bool.{true}
+use lib.Signed.{ltZ}
 use mir.Facts.{toZ-ofZ}
 use Rattle.whole.specs.Compare.{outside}
 use Rattle.whole.proofs.is_outside.Statement.{statement}
@@ -9,7 +12,8 @@ returns : tie.Need-returns
 unfolding outside
 returns c =
     let s = c .before in
-    rw (rw (toZ-ofZ (s .fits .z), toZ-ofZ (s .fits .low)) at (c .if1 .taken))
+    let k : ltZ (s .args .z) (s .args .low) ≡ true = rw (toZ-ofZ (s .fits .z), toZ-ofZ (s .fits .low)) at (c .if1 .taken) in
+    rw k
 
 returns-2 : tie.Need-returns-2
 unfolding outside

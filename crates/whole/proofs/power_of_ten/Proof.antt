@@ -8,53 +8,9 @@ use Rattle.whole.specs.Powers.{powerOfTen}
 use Rattle.whole.proofs.power_of_ten.Statement.{statement}
 use Rattle.whole.proofs.power_of_ten.Tie as tie
 
-returns : tie.Need-returns
-unfolding powerOfTen
-returns c = rw (c .match .keys1)
-
-returns-2 : tie.Need-returns-2
-unfolding powerOfTen
-returns-2 c = rw (c .match .keys2)
-
-returns-3 : tie.Need-returns-3
-unfolding powerOfTen
-returns-3 c = rw (c .match .keys3)
-
-returns-4 : tie.Need-returns-4
-unfolding powerOfTen
-returns-4 c = rw (c .match .keys4)
-
-returns-5 : tie.Need-returns-5
-unfolding powerOfTen
-returns-5 c = rw (c .match .keys5)
-
-returns-6 : tie.Need-returns-6
-unfolding powerOfTen
-returns-6 c = rw (c .match .keys6)
-
-returns-7 : tie.Need-returns-7
-unfolding powerOfTen
-returns-7 c = rw (c .match .keys7)
-
-returns-8 : tie.Need-returns-8
-unfolding powerOfTen
-returns-8 c = rw (c .match .keys8)
-
-returns-9 : tie.Need-returns-9
-unfolding powerOfTen
-returns-9 c = rw (c .match .keys9)
-
-returns-10 : tie.Need-returns-10
-unfolding powerOfTen
-returns-10 c = rw (c .match .keys10)
-
-returns-11 : tie.Need-returns-11
-unfolding powerOfTen
-returns-11 c = rw (c .match .keys11)
-
-returns-12 : tie.Need-returns-12
-unfolding powerOfTen
-returns-12 c = rw (c .match .keys12)
+-- a power, where k is its number
+power : (k n : ℕ) → k ≡ n → powerOfTen n ≡ powerOfTen k
+power k n e = rw e
 
 -- past a number that it is not
 next : (n k : ℕ) → n ≤ k → (k ≡ n → ⊥) → suc n ≤ k
@@ -68,19 +24,11 @@ returns-13 c =
     rw (lt-ltb 11 k (next 11 k (next 10 k (next 9 k (next 8 k (next 7 k (next 6 k (next 5 k (next 4 k (next 3 k (next 2 k (next 1 k (next 0 k (omega arith) (r .0 .0 .0 .0 .0 .0 .0 .0 .0 .0 .0 .1)) (r .0 .0 .0 .0 .0 .0 .0 .0 .0 .0 .1)) (r .0 .0 .0 .0 .0 .0 .0 .0 .0 .1)) (r .0 .0 .0 .0 .0 .0 .0 .0 .1)) (r .0 .0 .0 .0 .0 .0 .0 .1)) (r .0 .0 .0 .0 .0 .0 .1)) (r .0 .0 .0 .0 .0 .1)) (r .0 .0 .0 .0 .1)) (r .0 .0 .0 .1)) (r .0 .0 .1)) (r .0 .1)) (r .1)))
 
 pub power-of-ten-spec : {M : Type 1} → statement M
+unfolding powerOfTen
 power-of-ten-spec =
     tie.close
     (tie.spec
-    returns
-    returns-2
-    returns-3
-    returns-4
-    returns-5
-    returns-6
-    returns-7
-    returns-8
-    returns-9
-    returns-10
-    returns-11
-    returns-12
-    returns-13)
+    (λ c. power _ 0 (c .match .keys1)) (λ c. power _ 1 (c .match .keys2)) (λ c. power _ 2 (c .match .keys3))
+    (λ c. power _ 3 (c .match .keys4)) (λ c. power _ 4 (c .match .keys5)) (λ c. power _ 5 (c .match .keys6))
+    (λ c. power _ 6 (c .match .keys7)) (λ c. power _ 7 (c .match .keys8)) (λ c. power _ 8 (c .match .keys9))
+    (λ c. power _ 9 (c .match .keys10)) (λ c. power _ 10 (c .match .keys11)) (λ c. power _ 11 (c .match .keys12)) returns-13)

@@ -1,7 +1,7 @@
 -- `writer::head_length` meets its contract, by the zone's sign.
 -- Assumes nothing.
 use mir.Facts.{toZ-ofZ}
-use Rattle.writer.specs.Text.{headLength}
+use Rattle.writer.specs.inner.Lengths.{headLength}
 use Rattle.writer.proofs.head_length.Statement.{statement}
 use Rattle.writer.proofs.head_length.Tie as tie
 

@@ -9,9 +9,6 @@ use borrow.Author.Needs.{needs}
 use Rattle.writer.proofs.put_bare.Statement.{statement}
 use Rattle.writer.proofs.put_bare.Tie as tie
 
-head-length-requires : tie.Need-head-length-requires
-head-length-requires c κs = search needs
-
 size : (c : tie.After-head-length) → let s = c .before .before in c .head-length .result ≡ length (headText (s .args .zone) (s .args .band))
 size c =
     let s = c .before .before in
@@ -23,12 +20,6 @@ returns c =
     let s = h .before .before in
     short (headText (s .args .zone) (s .args .band)) (s .args .out .now) _ (size h) (c .if1 .taken)
 
-put-head-requires : tie.Need-put-head-requires
-put-head-requires c κs = search needs
-
-same-length : tie.Need-same-length
-same-length c = search needs
-
 returns-2 : tie.Need-returns-2
 returns-2 c =
     let p = c .before .before in
@@ -38,5 +29,4 @@ returns-2 c =
     long (headText (s .args .zone) (s .args .band)) (s .args .out .now) _ (size h) (t .if1 .left) _ (rw (toZ-ofZ (s .fits .zone)) at (p .put-head .ensures))
 
 pub put-bare-spec : {M : Type 1} → statement M
-put-bare-spec =
-    tie.close (tie.spec head-length-requires returns put-head-requires same-length returns-2)
+put-bare-spec = tie.close (tie.spec (λ c κs. search needs) returns (λ c κs. search needs) (λ c. search needs) returns-2)

@@ -9,26 +9,11 @@ use borrow.Author.Needs.{needs}
 use Rattle.writer.proofs.put_block.Statement.{statement}
 use Rattle.writer.proofs.put_block.Tie as tie
 
-slice-write-out : tie.Need-slice-write-out
-slice-write-out c = search needs
-
-add-out : tie.Need-add-out
-add-out c = search needs
-
 slice-write-out-2 : tie.Need-slice-write-out-2
 slice-write-out-2 c = let k = c .before .pre .2 in simp length-set (omega arith)
 
-add-put-digits : tie.Need-add-put-digits
-add-put-digits c = search needs
-
 put-digits-requires : tie.Need-put-digits-requires
 put-digits-requires c κs = let k = c .before .before .pre .2 in simp length-set (omega arith)
-
-add-put-digits-2 : tie.Need-add-put-digits-2
-add-put-digits-2 c = search needs
-
-add-put-digits-3 : tie.Need-add-put-digits-3
-add-put-digits-3 c = search needs
 
 put-digits-requires-2 : tie.Need-put-digits-requires-2
 put-digits-requires-2 c κs =
@@ -52,13 +37,5 @@ pub put-block-spec : {M : Type 1} → statement M
 put-block-spec =
     tie.close
     (tie.spec
-    slice-write-out
-    add-out
-    slice-write-out-2
-    add-put-digits
-    put-digits-requires
-    add-put-digits-2
-    add-put-digits-3
-    put-digits-requires-2
-    same-length
-    returns)
+    (λ c. search needs) (λ c. search needs) slice-write-out-2 (λ c. search needs) put-digits-requires (λ c. search needs)
+    (λ c. search needs) put-digits-requires-2 same-length returns)

@@ -19,52 +19,13 @@ Inv-loop out₀ at count number k₀ rest₀ out k rest =
 abbrev μ-loop : tie.MeasureT-loop
 μ-loop out₀ at count number k₀ rest₀ out k rest = k
 
-loop-holds : tie.Need-loop-holds Inv-loop μ-loop
-loop-holds c = search needs
-
-cast-out : tie.Need-cast-out Inv-loop μ-loop
-cast-out c = search needs
-
-add-out : tie.Need-add-out Inv-loop μ-loop
-add-out c = search needs
-
-add-out-2 : tie.Need-add-out-2 Inv-loop μ-loop
-add-out-2 c = search needs
-
-add-out-3 : tie.Need-add-out-3 Inv-loop μ-loop
-add-out-3 c = search needs
-
-slice-write-out : tie.Need-slice-write-out Inv-loop μ-loop
-slice-write-out c = search needs
-
-cast-out-2 : tie.Need-cast-out-2 Inv-loop μ-loop
-cast-out-2 c = search needs
-
-add-out-4 : tie.Need-add-out-4 Inv-loop μ-loop
-add-out-4 c = search needs
-
-add-out-5 : tie.Need-add-out-5 Inv-loop μ-loop
-add-out-5 c = search needs
-
 slice-write-out-2 : tie.Need-slice-write-out-2 Inv-loop μ-loop
 slice-write-out-2 c = simp length-set (omega arith)
-
-loop-less : tie.Need-loop-less Inv-loop μ-loop
-loop-less c = search needs
 
 loop-again : tie.Need-loop-again Inv-loop μ-loop
 loop-again c =
     let l = c .before .loop in
     (omega arith, simp length-set (l .inv .1), l .inv .2 ∙ two-step _ _ _ _ (c .loop-test .taken))
-
-cast-out-3 : tie.Need-cast-out-3 Inv-loop μ-loop
-cast-out-3 c = search needs
-
-add-out-6 : tie.Need-add-out-6 Inv-loop μ-loop
-add-out-6 c = search needs
-
-slice-write-out-3 : tie.Need-slice-write-out-3 Inv-loop μ-loop
-slice-write-out-3 c = search needs
 
 -- one digit is left, or none
 one : (l out : List ℕ) (at count number k rest : ℕ) → Inv-loop l at count number 0 0 out k rest → k < 2 → 0 < k → set out at (48 + rest % 10) ≡ sets l at (lastDigits count number)
@@ -81,9 +42,6 @@ same-length c = simp length-set (c .before .before .loop .inv .1)
 returns : tie.Need-returns Inv-loop μ-loop
 returns c = one _ _ _ _ _ _ _ (c .before .before .loop .inv) (c .before .loop-test .left) (c .if1 .taken)
 
-same-length-2 : tie.Need-same-length-2 Inv-loop μ-loop
-same-length-2 c = search needs
-
 returns-2 : tie.Need-returns-2 Inv-loop μ-loop
 returns-2 c = none _ _ _ _ _ _ _ (c .before .before .loop .inv) (c .if1 .left)
 
@@ -91,24 +49,6 @@ pub put-digits-spec : {M : Type 1} → statement M
 put-digits-spec =
     tie.close
     (tie.spec
-    Inv-loop
-    μ-loop
-    loop-holds
-    cast-out
-    add-out
-    add-out-2
-    add-out-3
-    slice-write-out
-    cast-out-2
-    add-out-4
-    add-out-5
-    slice-write-out-2
-    loop-less
-    loop-again
-    cast-out-3
-    add-out-6
-    slice-write-out-3
-    same-length
-    returns
-    same-length-2
-    returns-2)
+    Inv-loop μ-loop (λ c. search needs) (λ c. search needs) (λ c. search needs) (λ c. search needs) (λ c. search needs)
+    (λ c. search needs) (λ c. search needs) (λ c. search needs) (λ c. search needs) slice-write-out-2 (λ c. search needs)
+    loop-again (λ c. search needs) (λ c. search needs) (λ c. search needs) same-length returns (λ c. search needs) returns-2)

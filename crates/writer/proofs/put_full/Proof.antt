@@ -8,17 +8,12 @@ use mir.Syntax.{w64}
 use mir.Val.{toZ, ofZ}
 use mir.Facts.{toZ-ofZ}
 use Rattle.whole.specs.Floor.{fold}
-use Rattle.writer.specs.Text.{headLength, fullText}
+use Rattle.writer.specs.inner.Lengths.{headLength}
+use Rattle.writer.specs.Text.{fullText}
 use Rattle.writer.proofs.Stores.{length-le, full-length, full-stored, short, long}
 use borrow.Author.Needs.{needs}
 use Rattle.writer.proofs.put_full.Statement.{statement}
 use Rattle.writer.proofs.put_full.Tie as tie
-
-head-length-requires : tie.Need-head-length-requires
-head-length-requires c κs = search needs
-
-fold-of-requires : tie.Need-fold-of-requires
-fold-of-requires c κs = search needs
 
 -- the signed fields are read back
 zone-back : (c : tie.After-struct-told) → let s = c .before .before in toZ w64 (ofZ w64 (s .args .parts .zone)) ≡ s .args .parts .zone
@@ -52,9 +47,6 @@ add-n-2 c = record { fits = let h = head-le (c .before .before) in let k = few c
 add-n-3 : tie.Need-add-n-3
 add-n-3 c = record { fits = let h = head-le (c .before .before) in let k = few c in omega arith }
 
-put-head-requires : tie.Need-put-head-requires
-put-head-requires c κs = search needs
-
 put-block-requires : tie.Need-put-block-requires
 put-block-requires c κs =
     let h = c .before .before .before in
@@ -63,9 +55,6 @@ put-block-requires c κs =
     let k = t .if1 .taken in
     let l = h .put-head .kept .0 in
     (p-is f, few f, omega arith)
-
-same-length : tie.Need-same-length
-same-length c = search needs
 
 returns : tie.Need-returns
 returns c =
@@ -88,13 +77,5 @@ pub put-full-spec : {M : Type 1} → statement M
 put-full-spec =
     tie.close
     (tie.spec
-    head-length-requires
-    fold-of-requires
-    add-n
-    add-n-2
-    add-n-3
-    put-head-requires
-    put-block-requires
-    same-length
-    returns
-    returns-2)
+    (λ c κs. search needs) (λ c κs. search needs) add-n add-n-2 add-n-3 (λ c κs. search needs) put-block-requires
+    (λ c. search needs) returns returns-2)

@@ -24,9 +24,6 @@ slice-write-out c =
     let k = s .pre in
     omega arith
 
-fold-of-requires : tie.Need-fold-of-requires
-fold-of-requires c κs = search needs
-
 put-digits-requires : tie.Need-put-digits-requires
 put-digits-requires c κs =
     let t = c .before .before in
@@ -45,14 +42,8 @@ slice-write-out-2 c =
     let l = d .put-digits .kept .0 in
     omega arith
 
-same-length : tie.Need-same-length
-same-length c = search needs
-
 returns : tie.Need-returns
 returns c = let s = c .before .before in ups-stored (s .args .zone) (s .args .band) (s .args .out .now) (ups c)
-
-same-length-2 : tie.Need-same-length-2
-same-length-2 c = search needs
 
 returns-2 : tie.Need-returns-2
 returns-2 c =
@@ -66,11 +57,5 @@ pub put-head-spec : {M : Type 1} → statement M
 put-head-spec =
     tie.close
     (tie.spec
-    slice-write-out
-    fold-of-requires
-    put-digits-requires
-    slice-write-out-2
-    same-length
-    returns
-    same-length-2
+    slice-write-out (λ c κs. search needs) put-digits-requires slice-write-out-2 (λ c. search needs) returns (λ c. search needs)
     returns-2)

@@ -40,12 +40,6 @@ module _ (zone : ℤ) (north : Bool) (band : ℕ) (p e n : ℤ) (l : List ℕ) w
   unfolding writeOf writeLeaves
   by-none k x = rw x (refl, refl)
 
-compose-requires : tie.Need-compose-requires
-compose-requires c κs = search needs
-
-enum-known-parts : tie.Need-enum-known-parts
-enum-known-parts c = search needs
-
 made : (c : tie.After-compose) → let s = c .before .before in
     c .compose .result ≡ composed (s .args .zone) (s .args .north) (s .args .band) (s .args .p) (s .args .easting) (s .args .northing)
 made c =
@@ -59,18 +53,6 @@ put-full-requires c κs =
     let s = m .before .before in
     few (s .args .zone) (s .args .north) (s .args .band) (s .args .p) (s .args .easting) (s .args .northing) _ (sym (made m) ∙ k .parts .given .1)
 
-enum-known-bare : tie.Need-enum-known-bare
-enum-known-bare c = search needs
-
-put-bare-requires : tie.Need-put-bare-requires
-put-bare-requires c κs = search needs
-
-enum-known-k : tie.Need-enum-known-k
-enum-known-k c = search needs
-
-same-length : tie.Need-same-length
-same-length c = search needs
-
 returns : tie.Need-returns
 returns c =
     let p = c .before .before in
@@ -78,9 +60,6 @@ returns c =
     let m = k .before .before in
     let s = m .before .before in
     by-full (s .args .zone) (s .args .north) (s .args .band) (s .args .p) (s .args .easting) (s .args .northing) (s .args .out .now) _ _ _ (sym (made m) ∙ k .parts .given .1) (p .put-full .ensures)
-
-same-length-2 : tie.Need-same-length-2
-same-length-2 c = search needs
 
 returns-2 : tie.Need-returns-2
 returns-2 c =
@@ -104,14 +83,5 @@ pub write-spec : {M : Type 1} → statement M
 write-spec =
     tie.close
     (tie.spec
-    compose-requires
-    enum-known-parts
-    put-full-requires
-    enum-known-bare
-    put-bare-requires
-    enum-known-k
-    same-length
-    returns
-    same-length-2
-    returns-2
-    returns-3)
+    (λ c κs. search needs) (λ c. search needs) put-full-requires (λ c. search needs) (λ c κs. search needs) (λ c. search needs)
+    (λ c. search needs) returns (λ c. search needs) returns-2 returns-3)

@@ -7,12 +7,9 @@ use Rattle.zones.specs.Zones.{degrees}
 use Rattle.zones.proofs.degrees_of.Statement.{statement}
 use Rattle.zones.proofs.degrees_of.Tie as tie
 
-floor-div-requires : tie.Need-floor-div-requires
-floor-div-requires c κs = search needs
-
 returns : tie.Need-returns
 unfolding degrees
 returns c = back _ _ (c .floor-div .ok) (rw (toZ-ofZ (c .before .fits .billionths)) at (c .floor-div .ensures))
 
 pub degrees-of-spec : {M : Type 1} → statement M
-degrees-of-spec = tie.close (tie.spec floor-div-requires returns)
+degrees-of-spec = tie.close (tie.spec (λ c κs. search needs) returns)

@@ -12,9 +12,6 @@ use Rattle.zones.proofs.plain_zone.Tie as tie
 add-floor-div : tie.Need-add-floor-div
 add-floor-div c = rw (toZ-ofZ (c .fits .d)) (more-fits (c .args .d) (c .pre) 186 (lit≤ tt))
 
-floor-div-requires : tie.Need-floor-div-requires
-floor-div-requires c κs = search needs
-
 returns : tie.Need-returns
 unfolding plain
 returns c =
@@ -23,4 +20,4 @@ returns c =
     (rw (toZ-ofZ (s .fits .d), toZ-ofZ (more-fits (s .args .d) (s .pre) 186 (lit≤ tt))) at (c .floor-div .ensures))
 
 pub plain-zone-spec : {M : Type 1} → statement M
-plain-zone-spec = tie.close (tie.spec add-floor-div floor-div-requires returns)
+plain-zone-spec = tie.close (tie.spec add-floor-div (λ c κs. search needs) returns)

@@ -1,5 +1,8 @@
 -- `zones::standard_zone` meets its contract: each refusal follows from the tests on the way, the zone from the functions that it calls.
 -- Assumes nothing.
+use mathlib.Core.Bool.{true}
+use lib.IntN.{pos}
+use lib.Signed.{ltZ}
 use mathlib.Core.Path.{_≡_}
 use borrow.Author.Needs.{needs}
 use Rattle.whole.proofs.Signed.{back}
@@ -20,7 +23,7 @@ unfolding zoneOf
 returns-2 c =
     let f = toZ-ofZ (c .before .before .fits .latitude) in
     let i = rw f at (c .before .if1 .left) in
-    let j = rw f at (c .if2 .taken) in
+    let j : ltZ (pos 90000000000) (c .before .before .args .latitude) ≡ true = rw f at (c .if2 .taken) in
     rw (i, j)
 
 returns-3 : tie.Need-returns-3
@@ -41,12 +44,6 @@ returns-4 c =
     let k = rw f at (c .before .if3 .left) in
     let l = rw f at (c .if4 .taken) in
     rw (i, j, k, l)
-
-to-latitude-band-requires : tie.Need-to-latitude-band-requires
-to-latitude-band-requires c κs = search needs
-
-turned-degrees-requires : tie.Need-turned-degrees-requires
-turned-degrees-requires c κs = search needs
 
 d-is : (c : tie.After-turned-degrees) → toZ w64 (ofZ w64 (c .turned-degrees .result)) ≡ turned (degrees (c .before .before .before .before .before .before .args .longitude))
 d-is c = back _ _ (c .turned-degrees .ok) (rw (toZ-ofZ (c .before .before .before .before .before .before .fits .longitude)) at (c .turned-degrees .ensures))
@@ -71,4 +68,7 @@ returns-5 c =
     rw (i, j, k, l, zone)
 
 pub standard-zone-spec : {M : Type 1} → statement M
-standard-zone-spec = tie.close (tie.spec returns returns-2 returns-3 returns-4 to-latitude-band-requires turned-degrees-requires zone-at-requires returns-5)
+standard-zone-spec =
+    tie.close
+    (tie.spec
+    returns returns-2 returns-3 returns-4 (λ c κs. search needs) (λ c κs. search needs) zone-at-requires returns-5)

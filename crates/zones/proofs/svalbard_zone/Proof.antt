@@ -23,9 +23,6 @@ half c =
 add-floor-div : tie.Need-add-floor-div
 add-floor-div c = rw (toZ-ofZ (c .fits .d)) (more-fits (c .args .d) (c .pre) 183 (lit≤ tt))
 
-floor-div-requires : tie.Need-floor-div-requires
-floor-div-requires c κs = search needs
-
 mul-result : tie.Need-mul-result
 mul-result c = rw (half c) (double-fits (c .before .args .d) (c .before .pre))
 
@@ -38,4 +35,4 @@ unfolding svalbard
 returns c = rw (half c, toZ-ofZ (double-fits (c .before .args .d) (c .before .pre))) (toZ-ofZ (svalbard-fits (c .before .args .d) (c .before .pre)))
 
 pub svalbard-zone-spec : {M : Type 1} → statement M
-svalbard-zone-spec = tie.close (tie.spec add-floor-div floor-div-requires mul-result add-result returns)
+svalbard-zone-spec = tie.close (tie.spec add-floor-div (λ c κs. search needs) mul-result add-result returns)

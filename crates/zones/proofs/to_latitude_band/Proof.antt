@@ -1,5 +1,8 @@
 -- `zones::to_latitude_band` meets its contract: each return follows from the tests on the way.
 -- Assumes nothing.
+use mathlib.Core.Bool.{true}
+use lib.IntN.{negsuc}
+use lib.Signed.{ltZ}
 use mathlib.Core.Path.{_≡_}
 use borrow.Author.Needs.{needs}
 use Rattle.whole.proofs.Signed.{back}
@@ -13,12 +16,11 @@ use Rattle.zones.proofs.to_latitude_band.Tie as tie
 d-is : (c : tie.After-degrees-of) → toZ w64 (ofZ w64 (c .degrees-of .result)) ≡ degrees (c .before .args .latitude)
 d-is c = back _ _ (c .degrees-of .ok) (rw (toZ-ofZ (c .before .fits .latitude)) at (c .degrees-of .ensures))
 
-degrees-of-requires : tie.Need-degrees-of-requires
-degrees-of-requires c κs = search needs
-
 returns : tie.Need-returns
 unfolding bandOf bandAt
-returns c = let k = rw (d-is (c .before)) at (c .if1 .taken) in rw k
+returns c =
+    let k : ltZ (degrees (c .before .before .args .latitude)) (negsuc 71) ≡ true = rw (d-is (c .before)) at (c .if1 .taken) in
+    rw k
 
 returns-2 : tie.Need-returns-2
 unfolding bandOf bandAt
@@ -27,9 +29,6 @@ returns-2 c =
     let j = rw (d-is (e .before)) at (e .if1 .left) in
     let k = rw (d-is (e .before)) at (c .if2 .taken) in
     rw (j, k)
-
-floor-div-requires : tie.Need-floor-div-requires
-floor-div-requires c κs = search needs
 
 returns-3 : tie.Need-returns-3
 unfolding bandOf bandAt
@@ -41,4 +40,4 @@ returns-3 c =
     rw (j, k) (back _ _ (c .floor-div .ok) (rw (d-is (e .before)) at (c .floor-div .ensures)))
 
 pub to-latitude-band-spec : {M : Type 1} → statement M
-to-latitude-band-spec = tie.close (tie.spec degrees-of-requires returns returns-2 floor-div-requires returns-3)
+to-latitude-band-spec = tie.close (tie.spec (λ c κs. search needs) returns returns-2 (λ c κs. search needs) returns-3)

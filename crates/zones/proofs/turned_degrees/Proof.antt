@@ -35,14 +35,8 @@ difference c = rw (rest c, toZ-pos w64 (small (degrees (c .before .before .args 
 turned-ok : (c : tie.After-floor-mod) → SFits w64 (turned (degrees (c .before .before .args .longitude)))
 turned-ok c = let d = degrees (c .before .before .args .longitude) in turned-fits (turned d) (turned-range d)
 
-degrees-of-requires : tie.Need-degrees-of-requires
-degrees-of-requires c κs = search needs
-
 add-floor-mod : tie.Need-add-floor-mod
 add-floor-mod c = rw (d-is c) (sum-fits (c .before .args .longitude) (c .before .fits .longitude))
-
-floor-mod-requires : tie.Need-floor-mod-requires
-floor-mod-requires c κs = search needs
 
 cast-result : tie.Need-cast-result
 cast-result c = rw (rest c) (small (degrees (c .before .before .args .longitude) +ℤ pos 180))
@@ -54,4 +48,4 @@ returns : tie.Need-returns
 returns c = rw (difference c) (toZ-ofZ (turned-ok c))
 
 pub turned-degrees-spec : {M : Type 1} → statement M
-turned-degrees-spec = tie.close (tie.spec degrees-of-requires add-floor-mod floor-mod-requires cast-result sub-result returns)
+turned-degrees-spec = tie.close (tie.spec (λ c κs. search needs) add-floor-mod (λ c κs. search needs) cast-result sub-result returns)

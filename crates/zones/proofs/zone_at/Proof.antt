@@ -19,21 +19,9 @@ in-norway c = let s = c .before .before in rw (toZ-ofZ (s .fits .band), toZ-ofZ 
 in-arctic : (c : tie.After-is-arctic) → let s = c .before .before .before .before in c .is-arctic .result ≡ arctic (s .args .band) (s .args .d)
 in-arctic c = let s = c .before .before .before .before in rw (toZ-ofZ (s .fits .band), toZ-ofZ (s .fits .d)) at (c .is-arctic .ensures)
 
-plain-zone-requires : tie.Need-plain-zone-requires
-plain-zone-requires c κs = search needs
-
-is-norway-requires : tie.Need-is-norway-requires
-is-norway-requires c κs = search needs
-
 returns : tie.Need-returns
 unfolding zoneAt
 returns c = let k = sym (in-norway (c .before)) ∙ c .if1 .taken in rw k
-
-is-arctic-requires : tie.Need-is-arctic-requires
-is-arctic-requires c κs = search needs
-
-svalbard-zone-requires : tie.Need-svalbard-zone-requires
-svalbard-zone-requires c κs = search needs
 
 returns-2 : tie.Need-returns-2
 unfolding zoneAt
@@ -54,4 +42,7 @@ returns-3 c =
     rw (j, k) (zone (e .before .before))
 
 pub zone-at-spec : {M : Type 1} → statement M
-zone-at-spec = tie.close (tie.spec plain-zone-requires is-norway-requires returns is-arctic-requires svalbard-zone-requires returns-2 returns-3)
+zone-at-spec =
+    tie.close
+    (tie.spec
+    (λ c κs. search needs) (λ c κs. search needs) returns (λ c κs. search needs) (λ c κs. search needs) returns-2 returns-3)

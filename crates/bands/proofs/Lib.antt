@@ -1,0 +1,4 @@
+pub mod ZoneNumber
+pub mod Index
+mod Guesses
+pub mod Unique

@@ -1,0 +1,21 @@
+-- Two answers that meet a call's promise are equal: one lemma for each public call, over the contract itself.
+-- Assumes nothing.
+use mathlib.Core.Path.{_≡_, sym, _∙_}
+use contract.Lifetimes.{Lfts}
+use borrow.Fn.World.{ArgsD, ResD}
+use denote.Triple.Clauses.{AtExit}
+use Rattle.bands.proofs.grid_of as grid-of
+use Rattle.bands.proofs.grid_of.Reads as grid-of-reads
+use Rattle.bands.proofs.band_place as band-place
+use Rattle.bands.proofs.band_place.Reads as band-place-reads
+use Rattle.bands.proofs.band_index as band-index
+use Rattle.bands.proofs.band_index.Reads as band-index-reads
+
+pub grid-of-unique : (κs : Lfts 0) (a : ArgsD grid-of.signature κs) (r r′ : ResD grid-of.signature κs) (s s′ : AtExit grid-of.ended κs) → grid-of-reads.Post κs a r s → grid-of-reads.Post κs a r′ s′ → r ≡ r′
+grid-of-unique κs a r r′ s s′ p q = p ∙ sym q
+
+pub band-place-unique : (κs : Lfts 0) (a : ArgsD band-place.signature κs) (r r′ : ResD band-place.signature κs) (s s′ : AtExit band-place.ended κs) → band-place-reads.Post κs a r s → band-place-reads.Post κs a r′ s′ → r ≡ r′
+band-place-unique κs a r r′ s s′ p q = p ∙ sym q
+
+pub band-index-unique : (κs : Lfts 0) (a : ArgsD band-index.signature κs) (r r′ : ResD band-index.signature κs) (s s′ : AtExit band-index.ended κs) → band-index-reads.Post κs a r s → band-index-reads.Post κs a r′ s′ → r ≡ r′
+band-index-unique κs a r r′ s s′ p q = p ∙ sym q

@@ -1,0 +1,4 @@
+pub mod Bounds
+pub mod Placed
+pub mod Near
+pub mod Unique

@@ -1,0 +1,122 @@
+// The sets of column letters, as tables, and which of them a zone or a UPS band uses.
+use bands::Grid;
+use letters::Place;
+use letters::Stretch;
+ghost use mathlib.Core.Path.{_≡_};
+ghost use Rattle.letters.specs.Letters.{placeOf, letterAt, firstTile};
+ghost use Rattle.columns.specs.Columns.{columnsOf};
+ghost use Rattle.columns.specs.inner.Stretches.{columnStretch};
+
+// A table lent as `&TABLE` is built at the start of the function, so where only one arm of a `match` needs it, it is a local of that
+// arm.
+
+// Every three zones, from zone 1 on.
+const UTM_COLUMNS: [[u8; 8]; 3] = [*b"ABCDEFGH", *b"JKLMNPQR", *b"STUVWXYZ"];
+
+// The sets of UPS stand in one table, one after the other, so that which of them is meant costs no branch.
+// A from 0 on: JKLPQRSTUXYZ. B from 12: ABCFGHJKLPQR. Y from 24: RSTUXYZ. Z from 31: ABCFGHJ.
+const UPS_COLUMNS: [u8; 38] = *b"JKLPQRSTUXYZABCFGHJKLPQRRSTUXYZABCFGHJ";
+
+// Of the columns of A, B, Y and Z.
+const STRETCHES: [Stretch; 4] = [
+    Stretch {
+        start: 0,
+        end: 12,
+        first: 6,
+        tile: 8,
+    },
+    Stretch {
+        start: 12,
+        end: 24,
+        first: 0,
+        tile: 20,
+    },
+    Stretch {
+        start: 24,
+        end: 31,
+        first: 11,
+        tile: 13,
+    },
+    Stretch {
+        start: 31,
+        end: 38,
+        first: 0,
+        tile: 20,
+    },
+];
+
+// The columns of a UPS band: of any other byte, none.
+fn ups_columns(band: u8) -> Stretch
+    ensures { λ r. ⌜ r ≡ columnStretch band ⌝ }
+{
+    let Place::At(k) = bands::band_place(0, band) else {
+        return Stretch {
+            start: 0,
+            end: 0,
+            first: 0,
+            tile: 0,
+        };
+    };
+    STRETCHES[k]
+}
+
+// The place of a column's letter.
+pub fn column_place(zone: i64, band: u8, letter: u8) -> Place
+    ensures { λ r. ⌜ r ≡ placeOf (columnsOf zone band) letter ⌝ }
+{
+    match bands::grid_of(zone) {
+        Grid::Utm => {
+            let third = whole::floor_mod(zone - 1, 3) as usize;
+            let sets = UTM_COLUMNS;
+            letters::confirmed(
+                &sets[third],
+                letters::behind(letter, letters::skipped(letter), (8 * third) as u8),
+                letter,
+            )
+        }
+        Grid::Ups => {
+            let s = ups_columns(band);
+            let start = s.start as usize;
+            let end = s.end as usize;
+            let table = UPS_COLUMNS;
+            letters::confirmed(
+                &table[start..end],
+                letters::behind(letter, letters::skipped_in_columns(letter), s.first),
+                letter,
+            )
+        }
+        Grid::NoZone => Place::NotInSet,
+    }
+}
+
+// The column's letter at a place, 0 past the last.
+pub fn column_letter(zone: i64, band: u8, place: usize) -> u8
+    ensures { λ r. ⌜ r ≡ letterAt (columnsOf zone band) place ⌝ }
+{
+    match bands::grid_of(zone) {
+        Grid::Utm => {
+            let third = whole::floor_mod(zone - 1, 3) as usize;
+            let sets = UTM_COLUMNS;
+            letters::letter_at(&sets[third], place)
+        }
+        Grid::Ups => {
+            let s = ups_columns(band);
+            let start = s.start as usize;
+            let end = s.end as usize;
+            let table = UPS_COLUMNS;
+            letters::letter_at(&table[start..end], place)
+        }
+        Grid::NoZone => 0,
+    }
+}
+
+// The tile of the first column.
+pub fn first_column(zone: i64, band: u8) -> usize
+    ensures { λ r. ⌜ r ≡ firstTile (columnsOf zone band) ⌝ }
+{
+    match bands::grid_of(zone) {
+        Grid::Utm => 1,
+        Grid::Ups => ups_columns(band).tile as usize,
+        Grid::NoZone => 0,
+    }
+}

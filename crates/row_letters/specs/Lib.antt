@@ -1,0 +1,2 @@
+pub mod RowLetters
+pub mod inner

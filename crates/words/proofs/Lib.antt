@@ -1,0 +1,4 @@
+pub mod Laws
+pub mod High
+pub mod Words
+pub mod Unique
