@@ -8,19 +8,20 @@
 The gate shows that the prover refuses an edit. It cannot show that the edited program is wrong: an edit may be refused
 only because a proof no longer fits code that still answers rightly. So this applies each edit to a copy, runs a program
 on it unproved, and names the first line that differs from the program's stdout, what is said in its place, and for list
-the text that the line answers. The program is list for the edits of words, runs, spelling, head, block, reader and
-listing, and where that shows nothing examples; for all others examples, and where that shows nothing corners for those of composer,
-writer, squares and trip, list for the rest. An edit of laws or of a definition changes what is claimed, and is not run. Run it at the
+the text that the line answers; for vectors, where a recorded answer differs, that line and the answer in its place. The
+program is list for the edits of words, runs, spelling, head, block, reader and listing, and where that shows nothing
+vectors; for all others vectors, and where that shows nothing corners for those of composer, writer, squares and trip,
+list for the rest. An edit of laws or of a definition changes what is claimed, and is not run. Run it at the
 repository's root after an edit or an example is added; it ends with status 1 if some edit changes nothing.
 """
 import glob, os, re, shutil, subprocess, sys, tempfile
 
-PROGRAMS = {crate: ("list", "examples") for crate in ("words", "runs", "spelling", "head", "block", "reader", "listing")}
-PROGRAMS.update((crate, ("examples", "corners")) for crate in ("composer", "writer", "squares", "trip"))
+PROGRAMS = {crate: ("list", "vectors") for crate in ("words", "runs", "spelling", "head", "block", "reader", "listing")}
+PROGRAMS.update((crate, ("vectors", "corners")) for crate in ("composer", "writer", "squares", "trip"))
 
 
 def programs(crate, by):
-    return (by,) if by else PROGRAMS.get(crate, ("examples", "list"))
+    return (by,) if by else PROGRAMS.get(crate, ("vectors", "list"))
 
 
 def changed(scratch, crate, path):
@@ -50,6 +51,9 @@ def shown(scratch, program):
     at = re.search(r'on standard output, at byte (\d+), expected .*, found "(.*)"', first)
     if not at:
         return f"{program} does not end: " + first.strip().split("\n")[0]
+    told = re.match(r"(line .*?)\\n  here: (.*?)\\n", at.group(2))
+    if told:
+        return f"{program} differs at: {told[1]}, and says: {told[2]}"
     lines = open(os.path.join("crates", program, "stdout"), "rb").read()
     byte = int(at.group(1))
     start = lines.rfind(b"\n", 0, byte) + 1

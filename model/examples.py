@@ -1,10 +1,12 @@
 #!/usr/bin/env python3
-"""Writes crates/examples/stdout from document 01: each question of crates/examples/stdin with its answer.
+"""Writes crates/vectors/stdout from document 01: what the program has to print of the lines of crates/vectors/stdin.
 
-The rules are read as in model/ground.py, model/list.py and model/write.py. Run it at the repository's root after a question is
-added; the gate then holds the program to what stands there.
+A question with no recorded answer behind it is printed with its answer, a remark as it is. One with a recorded answer is answered here
+too, compared and counted. The rules are read as in model/ground.py, model/list.py and model/write.py. Run it at the repository's root
+after a line is added; the gate then holds the program to what stands there.
 """
 import re
+import sys
 from decimal import Decimal
 
 import ground
@@ -103,25 +105,56 @@ IN_BUFFER = {
 }
 
 
+# The questions that a recorded answer may follow, in the order of their counts.
+RECORDED = ("read", "write", "mgrs", "utm", "band", "zone", "row")
+
+
+def takes(word):
+    """How the fields of a question are taken."""
+    return (IN_BUFFER.get(word) or QUESTIONS[word])[1:]
+
+
 def answer(question):
     room = 28
     word, *words = question.split(" ")
     if word == "in":
         room, word, *words = int(words[0]), *words[1:]
+    given = [take(w) for take, w in zip(takes(word), words, strict=True)]
     if word in IN_BUFFER:
-        ask, *takes = IN_BUFFER[word]
-        return in_buffer(ask(*(take(w) for take, w in zip(takes, words, strict=True))), room)
-    ask, *takes = QUESTIONS[word]
-    return ask(*(take(w) for take, w in zip(takes, words, strict=True)))
+        return in_buffer(IN_BUFFER[word][0](*given), room)
+    return QUESTIONS[word][0](*given)
+
+
+def parted(line):
+    """A question, and the recorded answer behind it or nothing."""
+    words = line.split(" ")
+    if words[0] not in RECORDED:
+        return line, ""
+    end = 1 + len(takes(words[0]))
+    return " ".join(words[:end]), " ".join(words[end:])
 
 
 def main():
-    questions = open("crates/examples/stdin").read().split("\n")[:-1]
-    with open("crates/examples/stdout", "w") as out:
-        for question in questions:
-            # a remark has no answer
-            out.write(question + "\n" if question.startswith("#") else f"{question} {answer(question)}\n")
-    print(len(questions), "lines")
+    lines = open("crates/vectors/stdin").read().split("\n")[:-1]
+    counts = {word: [0, 0] for word in RECORDED}
+    with open("crates/vectors/stdout", "w") as out:
+        for line in lines:
+            if line.startswith("#"):
+                out.write(line + "\n")
+                continue
+            question, recorded = parted(line)
+            if not recorded:
+                out.write(f"{line} {answer(question)}\n")
+                continue
+            count = counts[line.split(" ")[0]]
+            count[0] += 1
+            if answer(question) != recorded:
+                count[1] += 1
+                print("another answer here:", line, file=sys.stderr)
+        for word, (asked, differ) in counts.items():
+            out.write(f"{word} {asked}, differ {differ}\n")
+        out.write(f"lines {sum(asked for asked, _ in counts.values())}, not understood 0\n")
+    print(len(lines), "lines")
 
 
 if __name__ == "__main__":

@@ -3,13 +3,14 @@ use mathlib.Core.Path.{_≡_, refl}
 use mathlib.Core.Bool.{Bool, true, false, cond}
 use Prim.Native.Nat.{ℕ, _≤_}
 use native.Mathlib.Omega.{arith}
-use lib.Dec.{lit≤}
+use borrow.Author.Tests.{lt-ltb}
+use lib.Dec.{ltb, lit≤}
 use lib.IntN.{ℤ, pos}
 use lib.Signed.{ltZ}
 use Rattle.whole.proofs.Parts.{clash}
 use Rattle.letters.specs.declared.Place.{Place}
 use Rattle.letters.specs.declared.Place.the-variants.{At, NotInSet}
-use Rattle.letters.specs.Letters.{UtmBands, placeOf, placeFrom, byPlace}
+use Rattle.letters.specs.Letters.{UtmBands, placeOf, placeFrom, byPlace, isIn}
 use Rattle.letters.proofs.Laws.{place-below}
 use Rattle.bands.specs.declared.Grid.{Grid}
 use Rattle.bands.specs.declared.Grid.the-variants.{Utm, Ups, NoZone}
@@ -27,6 +28,15 @@ by-place b NotInSet e = lit≤ tt
 pub index-le : (b : ℕ) → bandIndex b ≤ 20
 unfolding bandIndex
 index-le b = by-place b (placeOf UtmBands b) refl
+
+-- below 20 are those of the set's letters
+in-by : (b : ℕ) (p : Place) → placeOf UtmBands b ≡ p → ltb (byPlace p 20 (λ k. k)) 20 ≡ byPlace p false (λ k. true)
+in-by b (At k) e = lt-ltb k 20 (place-below UtmBands b k e)
+in-by b NotInSet e = refl
+
+pub index-in : (b : ℕ) → ltb (bandIndex b) 20 ≡ isIn UtmBands b
+unfolding bandIndex isIn
+index-in b = in-by b (placeOf UtmBands b) refl
 
 -- in a UTM zone it is the place in the zone's bands
 pub zone-index : (zone : ℤ) (b k : ℕ) → gridOf zone ≡ Utm → placeOf (bandsOf zone) b ≡ At k → bandIndex b ≡ k

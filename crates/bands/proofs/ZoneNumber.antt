@@ -1,9 +1,9 @@
 -- What the grid of a zone says of its number. Assumes nothing.
-use mathlib.Core.Path.{_≡_, refl}
+use mathlib.Core.Path.{_≡_, refl, ap}
 use mathlib.Core.Bool.{Bool, true, false, cond}
 use Prim.Native.Nat.{ℕ, _≤_}
 use native.Mathlib.Omega.{arith}
-use borrow.Author.Tests.{ltb-false}
+use borrow.Author.Tests.{ltb-true, ltb-false}
 use lib.Dec.{ltb, lit≤}
 use lib.IntN.{ℤ, pos, negsuc, _-ℤ_}
 use mir.Syntax.{w64}
@@ -30,6 +30,17 @@ pub utm-zone : (zone : ℤ) → gridOf zone ≡ Utm → Between 1 60 zone
 unfolding gridOf
 utm-zone (pos n) e = utm-by n (ltb n 0) (ltb 60 n) (ltb n 1) refl refl e
 utm-zone (negsuc n) e = let f : NoZone ≡ Utm = e in clash (cc)
+
+ups-by : (n : ℕ) (below above zero : Bool) → ltb n 1 ≡ zero → cond below NoZone (cond above NoZone (cond zero Ups Utm)) ≡ Ups → n ≡ 0
+ups-by n true above zero q e = clash (cc)
+ups-by n false true zero q e = clash (cc)
+ups-by n false false true q e = let h = ltb-true n 1 q in omega arith
+ups-by n false false false q e = clash (cc)
+
+pub ups-zone : (zone : ℤ) → gridOf zone ≡ Ups → zone ≡ pos 0
+unfolding gridOf
+ups-zone (pos n) e = ap pos (ups-by n (ltb n 0) (ltb 60 n) (ltb n 1) refl e)
+ups-zone (negsuc n) e = let f : NoZone ≡ Ups = e in clash (cc)
 
 -- a UTM zone less one
 pub zone-less-fits : (zone : ℤ) → SFits w64 zone → gridOf zone ≡ Utm → SFits w64 (zone -ℤ pos 1)

@@ -1,7 +1,7 @@
 // The bands of UTM and of UPS, as tables, and which of them a zone uses.
 use letters::Place;
 ghost use mathlib.Core.Path.{_≡_};
-ghost use Rattle.letters.specs.Letters.{placeOf};
+ghost use Rattle.letters.specs.Letters.{UtmBands, UpsBands, placeOf, isIn};
 ghost use Rattle.bands.specs.Bands.{gridOf, bandsOf, bandIndex};
 
 const UTM_BANDS: [u8; 20] = *b"CDEFGHJKLMNPQRSTUVWX";
@@ -31,21 +31,37 @@ pub fn grid_of(zone: i64) -> Grid
     Grid::Utm
 }
 
-// The place of a band's letter.
+// ---- the place of a band's letter
+
+// Among those of UTM.
+pub fn utm_place(letter: u8) -> Place
+    ensures { λ r. ⌜ r ≡ placeOf UtmBands letter ⌝ }
+{
+    letters::confirmed(
+        &UTM_BANDS,
+        letters::behind(letter, letters::skipped(letter), 2),
+        letter,
+    )
+}
+
+// Among those of UPS.
+pub fn ups_place(letter: u8) -> Place
+    ensures { λ r. ⌜ r ≡ placeOf UpsBands letter ⌝ }
+{
+    letters::confirmed(
+        &UPS_BANDS,
+        letters::behind(letter, letters::skipped_in_bands(letter), 0),
+        letter,
+    )
+}
+
+// Among those of a zone.
 pub fn band_place(zone: i64, letter: u8) -> Place
     ensures { λ r. ⌜ r ≡ placeOf (bandsOf zone) letter ⌝ }
 {
     match grid_of(zone) {
-        Grid::Utm => letters::confirmed(
-            &UTM_BANDS,
-            letters::behind(letter, letters::skipped(letter), 2),
-            letter,
-        ),
-        Grid::Ups => letters::confirmed(
-            &UPS_BANDS,
-            letters::behind(letter, letters::skipped_in_bands(letter), 0),
-            letter,
-        ),
+        Grid::Utm => utm_place(letter),
+        Grid::Ups => ups_place(letter),
         Grid::NoZone => Place::NotInSet,
     }
 }
@@ -54,12 +70,28 @@ pub fn band_place(zone: i64, letter: u8) -> Place
 pub fn band_index(band: u8) -> usize
     ensures { λ r. ⌜ r ≡ bandIndex band ⌝ }
 {
-    match letters::confirmed(
-        &UTM_BANDS,
-        letters::behind(band, letters::skipped(band), 2),
-        band,
-    ) {
+    match utm_place(band) {
         Place::At(k) => k,
         Place::NotInSet => 20,
+    }
+}
+
+fn is_ups_band(letter: u8) -> bool
+    ensures { λ r. ⌜ r ≡ isIn UpsBands letter ⌝ }
+{
+    match ups_place(letter) {
+        Place::At(_) => true,
+        Place::NotInSet => false,
+    }
+}
+
+// Whether a zone has a band. Reading asks no more than this, and an answer of one bit costs it less than a place.
+pub fn is_band(zone: i64, letter: u8) -> bool
+    ensures { λ r. ⌜ r ≡ isIn (bandsOf zone) letter ⌝ }
+{
+    match grid_of(zone) {
+        Grid::Utm => band_index(letter) < 20,
+        Grid::Ups => is_ups_band(letter),
+        Grid::NoZone => false,
     }
 }

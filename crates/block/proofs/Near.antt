@@ -14,7 +14,7 @@ use Rattle.position.specs.declared.Position.{Position}
 use Rattle.position.specs.Units.{tiles, metres}
 use Rattle.position.proofs.Exact.{Exactly}
 use Rattle.block.specs.Bare.{bareTile, bareEasting, bareNorthing, bareOf}
-use Rattle.block.proofs.Bounds.{bare-small, southern-small}
+use Rattle.block.proofs.Bounds.{bare-small, sided-small}
 
 pub record Near (q : Position) : Type 0 where
   pub east : Exactly (q .easting)
@@ -46,7 +46,7 @@ bare-north zone band = by (ltZ zone (pos 1)) (northBand band)
     by : (a b : Bool) → Exactly (cond a (metres 2000000) (cond b (tiles (bareTile k)) (tiles (bareTile k +ℤ pos 100))))
     by true b = computed _ (metres 2000000) tt
     by false true = more (product (bareTile k) 200000000000 (bare-small k h)) (lit≤ tt)
-    by false false = more (product (bareTile k +ℤ pos 100) 200000000000 (southern-small k h)) (lit≤ tt)
+    by false false = more (product (bareTile k +ℤ pos 100) 200000000000 (sided-small k h false)) (lit≤ tt)
 
 pub point-near : (zone : ℤ) (band : ℕ) → Near (bareOf zone band)
 unfolding bareOf

@@ -1,2 +1,2 @@
-mod Guesses
+pub mod Guesses
 pub mod Unique

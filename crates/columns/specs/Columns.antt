@@ -18,5 +18,10 @@ upsColumns b =
     cond (eqb b (code "A")) UpsColumnsA
     (cond (eqb b (code "B")) UpsColumnsB (cond (eqb b (code "Y")) UpsColumnsY (cond (eqb b (code "Z")) UpsColumnsZ NoLetters)))
 
+-- The columns of a UTM zone; no other number has any.
+unfoldable pub utmColumnsOf : ℤ → LetterSet
+utmColumnsOf zone = byGrid (gridOf zone) (utmColumns (floorMod (zone -ℤ pos 1) 3)) NoLetters NoLetters
+
+-- Those of a zone or, in zone 0, of a UPS band.
 unfoldable pub columnsOf : ℤ → ℕ → LetterSet
 columnsOf zone b = byGrid (gridOf zone) (utmColumns (floorMod (zone -ℤ pos 1) 3)) (upsColumns b) NoLetters

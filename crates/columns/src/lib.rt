@@ -3,8 +3,8 @@ use bands::Grid;
 use letters::Place;
 use letters::Stretch;
 ghost use mathlib.Core.Path.{_≡_};
-ghost use Rattle.letters.specs.Letters.{placeOf, letterAt, firstTile};
-ghost use Rattle.columns.specs.Columns.{columnsOf};
+ghost use Rattle.letters.specs.Letters.{placeOf, letterAt, firstTile, tileIn};
+ghost use Rattle.columns.specs.Columns.{upsColumns, utmColumnsOf, columnsOf};
 ghost use Rattle.columns.specs.inner.Stretches.{columnStretch};
 
 // A table lent as `&TABLE` is built at the start of the function, so where only one arm of a `match` needs it, it is a local of that
@@ -49,7 +49,7 @@ const STRETCHES: [Stretch; 4] = [
 fn ups_columns(band: u8) -> Stretch
     ensures { λ r. ⌜ r ≡ columnStretch band ⌝ }
 {
-    let Place::At(k) = bands::band_place(0, band) else {
+    let Place::At(k) = bands::ups_place(band) else {
         return Stretch {
             start: 0,
             end: 0,
@@ -60,9 +60,9 @@ fn ups_columns(band: u8) -> Stretch
     STRETCHES[k]
 }
 
-// The place of a column's letter.
-pub fn column_place(zone: i64, band: u8, letter: u8) -> Place
-    ensures { λ r. ⌜ r ≡ placeOf (columnsOf zone band) letter ⌝ }
+// The place of a column's letter in a UTM zone.
+pub fn utm_place(zone: i64, letter: u8) -> Place
+    ensures { λ r. ⌜ r ≡ placeOf (utmColumnsOf zone) letter ⌝ }
 {
     match bands::grid_of(zone) {
         Grid::Utm => {
@@ -74,18 +74,26 @@ pub fn column_place(zone: i64, band: u8, letter: u8) -> Place
                 letter,
             )
         }
-        Grid::Ups => {
-            let s = ups_columns(band);
-            let start = s.start as usize;
-            let end = s.end as usize;
-            let table = UPS_COLUMNS;
-            letters::confirmed(
-                &table[start..end],
-                letters::behind(letter, letters::skipped_in_columns(letter), s.first),
-                letter,
-            )
-        }
+        Grid::Ups => Place::NotInSet,
         Grid::NoZone => Place::NotInSet,
+    }
+}
+
+// The tile of a column's letter in a UPS band.
+pub fn ups_tile(band: u8, letter: u8) -> Place
+    ensures { λ r. ⌜ r ≡ tileIn (upsColumns band) letter ⌝ }
+{
+    let s = ups_columns(band);
+    let start = s.start as usize;
+    let end = s.end as usize;
+    let table = UPS_COLUMNS;
+    match letters::confirmed(
+        &table[start..end],
+        letters::behind(letter, letters::skipped_in_columns(letter), s.first),
+        letter,
+    ) {
+        Place::At(k) => Place::At(s.tile as usize + k),
+        Place::NotInSet => Place::NotInSet,
     }
 }
 

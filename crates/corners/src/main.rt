@@ -1,8 +1,11 @@
 // Writes references and reads each back: every bare zone, and the four corners of every tile, for every band. The gate holds
 // what is printed to the file stdout, which was made from document 01.
+use libc::STDOUT_FILENO;
 use position::Position;
 use reader::Answer;
-use say::pen::front;
+use say::front;
+use say::put;
+use say::put_count;
 use writer::Written;
 
 const TILE: u64 = 200_000_000_000;
@@ -128,7 +131,7 @@ fn missed(count: Count) -> Count {
 }
 
 // Each reference gets a buffer of its own, so that nothing of an earlier one can help it.
-fn put(q: Position, count: Count) -> Count {
+fn tried(q: Position, count: Count) -> Count {
     let mut out = [b'.'; 32];
     match writer::write(
         q.zone,
@@ -144,25 +147,13 @@ fn put(q: Position, count: Count) -> Count {
     }
 }
 
-fn told(count: Count) {
-    say::text(b" tried");
-    say::number(count.tried);
-    say::text(b" written");
-    say::number(count.written);
-    say::text(b" back");
-    say::number(count.back);
-    say::text(b" sum");
-    say::number(count.sum);
-    say::text(b"\n");
-}
-
 // ---- bare zones
 
 // What is read as a bare zone is written, at the point that reading supplied.
 fn bare_at(text: &[u8], count: Count) -> Count {
     match reader::read(text) {
         Answer::Square(_) => missed(count),
-        Answer::Bare(x) => put(x, count),
+        Answer::Bare(x) => tried(x, count),
         Answer::Refused(_) => missed(count),
     }
 }
@@ -215,7 +206,7 @@ fn units(tile: u64, within: u64) -> i64 {
 }
 
 fn corner(tile: Tile, band: u8, p: i64, east: u64, north: u64, count: Count) -> Count {
-    put(
+    tried(
         Position {
             zone: tile.zone,
             north: tile.north,
@@ -381,22 +372,45 @@ fn poles() -> Tally {
     columns(0, true, 13, 27, &UPS, south)
 }
 
+// ---- what is printed: each line is put together in a buffer, and written at once
+
+fn put_named(line: &mut [u8], at: usize, name: &[u8], n: u64) -> usize {
+    let to = put(line, at, name);
+    put_count(line, to, n)
+}
+
+fn written(line: &mut [u8], at: usize) {
+    let end = put(line, at, b"\n");
+    io::write_all(STDOUT_FILENO, front(line, end));
+}
+
+// The line of a count, behind what it begins with.
+fn told(line: &mut [u8], at: usize, count: Count) {
+    let a = put_named(line, at, b" tried", count.tried);
+    let b = put_named(line, a, b" written", count.written);
+    let c = put_named(line, b, b" back", count.back);
+    let d = put_named(line, c, b" sum", count.sum);
+    written(line, d);
+}
+
 fn told_of(kind: &[u8], p: u64, count: Count) {
-    say::text(kind);
-    say::text(b" p");
-    say::number(p);
-    told(count);
+    let mut line = [0u8; 128];
+    let a = put(&mut line, 0, kind);
+    let b = put_named(&mut line, a, b" p", p);
+    told(&mut line, b, count);
+}
+
+fn told_bands(kind: &[u8], tally: Tally) {
+    let mut line = [0u8; 128];
+    let a = put(&mut line, 0, kind);
+    let b = put_named(&mut line, a, b" bands fitting", tally.fitting);
+    let c = put_named(&mut line, b, b" R 19", tally.misfits);
+    let d = put_named(&mut line, c, b" other", tally.others);
+    written(&mut line, d);
 }
 
 fn told_all(kind: &[u8], tally: Tally) {
-    say::text(kind);
-    say::text(b" bands fitting");
-    say::number(tally.fitting);
-    say::text(b" R 19");
-    say::number(tally.misfits);
-    say::text(b" other");
-    say::number(tally.others);
-    say::text(b"\n");
+    told_bands(kind, tally);
     told_of(kind, 0, tally.none);
     told_of(kind, 1, tally.one);
     told_of(kind, 5, tally.five);
@@ -404,11 +418,16 @@ fn told_all(kind: &[u8], tally: Tally) {
     told_of(kind, 11, tally.eleven);
 }
 
+fn told_bare(kind: &[u8], count: Count) {
+    let mut line = [0u8; 128];
+    let a = put(&mut line, 0, kind);
+    let b = put(&mut line, a, b" bare");
+    told(&mut line, b, count);
+}
+
 fn main() {
-    say::text(b"utm bare");
-    told(bare_zones());
-    say::text(b"ups bare");
-    told(bare_bands(0, &UPS, no_count()));
+    told_bare(b"utm", bare_zones());
+    told_bare(b"ups", bare_bands(0, &UPS, no_count()));
     told_all(b"utm", zones());
     told_all(b"ups", poles());
 }

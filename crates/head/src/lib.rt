@@ -1,9 +1,10 @@
 // The head of a text: its zone and its band letter, or the number of the rule, 1 to 6, by which it is turned away.
-use letters::Place;
 use runs::Lead;
 use runs::ZoneLead;
 ghost use mathlib.Core.Path.{_≡_};
 ghost use Prim.Native.Nat.{_≤_};
+ghost use lib.Dec.{eqb};
+ghost use Rattle.letters.specs.Letters.{capitalOf};
 ghost use Rattle.head.specs.Head.{isInv, zoneWrong, headOf};
 
 // The zone, 0 for UPS, the band as a capital, and where the text goes on after it.
@@ -18,6 +19,16 @@ pub enum HeadAnswer {
     NoStart(u64),
 }
 
+// Whether a byte is I or i.
+fn is_i(b: u8) -> bool
+    ensures { λ r. ⌜ r ≡ eqb (capitalOf b) 73 ⌝ }
+{
+    if b == b'I' {
+        return true;
+    }
+    b == b'i'
+}
+
 // The first letter alone tells nearly every text apart.
 fn is_inv(s: &[u8]) -> bool
     ensures { λ r. ⌜ r ≡ isInv (now (s .entry)) ⌝ }
@@ -25,7 +36,7 @@ fn is_inv(s: &[u8]) -> bool
     if s.len() < 3 {
         return false;
     }
-    if letters::capital(s[0]) != b'I' {
+    if !is_i(s[0]) {
         return false;
     }
     if letters::capital(s[1]) != b'N' {
@@ -70,9 +81,9 @@ pub fn head_of(s: &[u8]) -> HeadAnswer
     }
     let zone = lead.value as i64;
     let band = letters::capital(s[count]);
-    let Place::At(_) = bands::band_place(zone, band) else {
+    if !bands::is_band(zone, band) {
         return HeadAnswer::NoStart(6);
-    };
+    }
     let next = count + 1;
     HeadAnswer::Start(Head { zone, band, next })
 }

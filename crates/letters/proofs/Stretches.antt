@@ -1,13 +1,15 @@
 -- Guesses, and sets that are parts of a table: the law of all sets serves them. Assumes nothing.
-use mathlib.Core.Path.{_≡_}
+use mathlib.Core.Path.{_≡_, sym, _∙_}
 use mathlib.Core.List.{List}
-use Prim.Native.Nat.{ℕ, _-_, _≤_}
+use Prim.Native.Nat.{ℕ, _+_, _-_, _≤_, _<_}
 use lib.Dec.{T}
 use lib.ListN.{take, drop}
-use Rattle.letters.specs.Letters.{LetterSet, lettersOf, placeOf, firstTile}
+use Rattle.letters.specs.Letters.{LetterSet, lettersOf, placeOf, firstTile, tileIn}
+use Rattle.letters.specs.declared.Place.the-variants.{At, NotInSet}
 use Rattle.letters.specs.declared.Stretch.{Stretch}
 use Rattle.letters.specs.Search.{confirm, behindOf, skippedOf, skippedInColumns, skippedInBands}
 use Rattle.letters.proofs.Confirm.{right, confirmed-is}
+use Rattle.letters.proofs.Places.{tile-lt}
 
 -- among all letters but I and O, among the UPS columns, among the UPS bands
 abbrev pub guess : ℕ → ℕ → ℕ
@@ -34,3 +36,15 @@ pub record Is (table : List ℕ) (g : ℕ → ℕ → ℕ) (set : LetterSet) (s 
 -- so a guess in the stretch is confirmed as in the set
 pub in-stretch : (table : List ℕ) (g : ℕ → ℕ → ℕ) (set : LetterSet) (s : Stretch) (b : ℕ) → Is table g set s → confirm (lettersFrom table s) (g (s .first) b) b ≡ placeOf set b
 in-stretch table g set s b i = rw (i .letters) (confirmed-is set (g (s .first)) (i .guessed) b)
+
+-- and its tile is counted from the stretch's, which is the set's first
+pub tile-at : (table : List ℕ) (g : ℕ → ℕ → ℕ) (set : LetterSet) (s : Stretch) (b k : ℕ) → Is table g set s → confirm (lettersFrom table s) (g (s .first) b) b ≡ At k → At (s .tile + k) ≡ tileIn set b
+unfolding tileIn
+tile-at table g set s b k i e = rw (sym (in-stretch table g set s b i) ∙ e, i .tile)
+
+pub tile-none : (table : List ℕ) (g : ℕ → ℕ → ℕ) (set : LetterSet) (s : Stretch) (b : ℕ) → Is table g set s → confirm (lettersFrom table s) (g (s .first) b) b ≡ NotInSet → NotInSet ≡ tileIn set b
+unfolding tileIn
+tile-none table g set s b i e = rw (sym (in-stretch table g set s b i) ∙ e)
+
+pub tile-small : (table : List ℕ) (g : ℕ → ℕ → ℕ) (set : LetterSet) (s : Stretch) (b k : ℕ) → Is table g set s → confirm (lettersFrom table s) (g (s .first) b) b ≡ At k → s .tile + k < 44
+tile-small table g set s b k i e = tile-lt set b (s .tile + k) (sym (tile-at table g set s b k i e))

@@ -1,7 +1,7 @@
 -- The letters of document 01, "Letters (source document 000)". Assumes nothing.
-use mathlib.Core.Bool.{Bool, true, cond}
+use mathlib.Core.Bool.{Bool, true, false, cond}
 use mathlib.Core.List.{List, [], _∷_}
-use Prim.Native.Nat.{ℕ, suc, _-_}
+use Prim.Native.Nat.{ℕ, suc, _+_, _-_}
 use Prim.Native.Char.{code}
 use lib.Dec.{eqb, leb, ltb}
 use lib.ListN.{getD}
@@ -59,6 +59,10 @@ abbrev pub byPlace : {A : Type 0} → Place → A → (ℕ → A) → A
 byPlace NotInSet none at = none
 byPlace (At k) none at = at k
 
+-- Whether a letter is in a set.
+unfoldable pub isIn : LetterSet → ℕ → Bool
+isIn set b = byPlace (placeOf set b) false (λ k. true)
+
 -- The letter at a place, 0 past the set's end.
 unfoldable pub letterAt : LetterSet → ℕ → ℕ
 letterAt set k = getD (lettersOf set) k 0
@@ -79,6 +83,10 @@ firstTile UpsColumnsY = 13
 firstTile UpsColumnsZ = 20
 firstTile UpsRowsSouth = 8
 firstTile UpsRowsNorth = 13
+
+-- The tile of a letter, as a place: counted from its set's first tile on.
+unfoldable pub tileIn : LetterSet → ℕ → Place
+tileIn set b = byPlace (placeOf set b) NotInSet (λ k. At (firstTile set + k))
 
 -- "north from N"; "A, B south; Y, Z north": the letters from N.
 abbrev pub northBand : ℕ → Bool

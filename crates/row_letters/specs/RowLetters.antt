@@ -4,6 +4,10 @@ use lib.IntN.{ℤ}
 use Rattle.letters.specs.Letters.{LetterSet, NoLetters, UtmRows, UpsRowsSouth, UpsRowsNorth}
 use Rattle.bands.specs.Bands.{gridOf, byGrid}
 
--- "UTM rows"; "UPS rows: south .., north ..".
+-- "UPS rows: south .., north ..".
+abbrev pub upsRows : Bool → LetterSet
+upsRows north = cond north UpsRowsNorth UpsRowsSouth
+
+-- "UTM rows", or those of UPS.
 unfoldable pub rowsOf : ℤ → Bool → LetterSet
-rowsOf zone north = byGrid (gridOf zone) UtmRows (cond north UpsRowsNorth UpsRowsSouth) NoLetters
+rowsOf zone north = byGrid (gridOf zone) UtmRows (upsRows north) NoLetters

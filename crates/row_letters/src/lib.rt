@@ -3,8 +3,8 @@ use bands::Grid;
 use letters::Place;
 use letters::Stretch;
 ghost use mathlib.Core.Path.{_≡_};
-ghost use Rattle.letters.specs.Letters.{placeOf, letterAt, firstTile};
-ghost use Rattle.row_letters.specs.RowLetters.{rowsOf};
+ghost use Rattle.letters.specs.Letters.{UtmRows, placeOf, letterAt, firstTile, tileIn};
+ghost use Rattle.row_letters.specs.RowLetters.{upsRows, rowsOf};
 ghost use Rattle.row_letters.specs.inner.Halves.{rowStretch};
 
 const UTM_ROWS: [u8; 20] = *b"ABCDEFGHJKLMNPQRSTUV";
@@ -32,31 +32,33 @@ fn ups_rows(north: bool) -> Stretch
     }
 }
 
-// The place of a row's letter.
-pub fn row_place(zone: i64, north: bool, letter: u8) -> Place
-    ensures { λ r. ⌜ r ≡ placeOf (rowsOf zone north) letter ⌝ }
+// The place of a row's letter in UTM.
+pub fn utm_place(letter: u8) -> Place
+    ensures { λ r. ⌜ r ≡ placeOf UtmRows letter ⌝ }
 {
-    match bands::grid_of(zone) {
-        Grid::Utm => {
-            let set = UTM_ROWS;
-            letters::confirmed(
-                &set,
-                letters::behind(letter, letters::skipped(letter), 0),
-                letter,
-            )
-        }
-        Grid::Ups => {
-            let s = ups_rows(north);
-            let start = s.start as usize;
-            let end = s.end as usize;
-            let table = UPS_ROWS;
-            letters::confirmed(
-                &table[start..end],
-                letters::behind(letter, letters::skipped(letter), s.first),
-                letter,
-            )
-        }
-        Grid::NoZone => Place::NotInSet,
+    let set = UTM_ROWS;
+    letters::confirmed(
+        &set,
+        letters::behind(letter, letters::skipped(letter), 0),
+        letter,
+    )
+}
+
+// The tile of a row's letter in a UPS hemisphere.
+pub fn ups_tile(north: bool, letter: u8) -> Place
+    ensures { λ r. ⌜ r ≡ tileIn (upsRows north) letter ⌝ }
+{
+    let s = ups_rows(north);
+    let start = s.start as usize;
+    let end = s.end as usize;
+    let table = UPS_ROWS;
+    match letters::confirmed(
+        &table[start..end],
+        letters::behind(letter, letters::skipped(letter), s.first),
+        letter,
+    ) {
+        Place::At(k) => Place::At(s.tile as usize + k),
+        Place::NotInSet => Place::NotInSet,
     }
 }
 

@@ -1,12 +1,10 @@
--- `bands::band_place` meets its contract: the tables are the grid's sets, and a guess that is right of a set is confirmed.
+-- `bands::band_place` meets its contract: each grid has its set.
 -- Assumes nothing.
 use mathlib.Core.Path.{_≡_, sym, _∙_}
 use borrow.Author.Needs.{needs}
-use lib.Dec.{lit≤}
 use mir.Facts.{toZ-ofZ}
 use Rattle.letters.specs.Letters.{placeOf, placeFrom}
 use Rattle.bands.specs.Bands.{gridOf, bandsOf}
-use Rattle.bands.proofs.Guesses.{utm-bands, ups-bands}
 use Rattle.bands.proofs.band_place.Statement.{statement}
 use Rattle.bands.proofs.band_place.Tie as tie
 
@@ -15,11 +13,11 @@ grid c = rw (toZ-ofZ (c .before .fits .zone)) at (c .grid-of .ensures)
 
 returns : tie.Need-returns
 unfolding bandsOf
-returns c = rw (sym (grid (c .before .before .before .before .before .before)) ∙ c .before .before .before .before .enum-told .given .1) ((rw (c .before .behind .ensures, c .before .before .skipped .ensures) at (c .confirmed .ensures)) ∙ utm-bands (c .before .before .before .before .before .before .before .args .letter))
+returns c = rw (sym (grid (c .before .before .before)) ∙ c .before .enum-told .given .1) (c .utm-place .ensures)
 
 returns-2 : tie.Need-returns-2
 unfolding bandsOf
-returns-2 c = rw (sym (grid (c .before .before .before .before .before .before)) ∙ c .before .before .before .before .enum-told2 .given .1) ((rw (c .before .behind2 .ensures, c .before .before .skipped-in-bands .ensures) at (c .confirmed2 .ensures)) ∙ ups-bands (c .before .before .before .before .before .before .before .args .letter))
+returns-2 c = rw (sym (grid (c .before .before .before)) ∙ c .before .enum-told2 .given .1) (c .ups-place .ensures)
 
 returns-3 : tie.Need-returns-3
 unfolding bandsOf placeOf placeFrom
@@ -29,6 +27,5 @@ pub band-place-spec : {M : Type 1} → statement M
 band-place-spec =
     tie.close
     (tie.spec
-    (λ c κs. search needs) (λ c. search needs) (λ c. search needs) (λ c κs. search needs) (λ c κs. search needs)
-    (λ c κs. search needs) (λ c. search needs) (λ c. search needs) (λ c κs. search needs) (λ c κs. search needs)
-    (λ c κs. search needs) (λ c. search needs) returns returns-2 returns-3)
+    (λ c κs. search needs) (λ c. search needs) (λ c κs. search needs) (λ c. search needs) (λ c κs. search needs)
+    (λ c. search needs) returns returns-2 returns-3)

@@ -14,7 +14,8 @@ use Rattle.letters.specs.Letters.{letterAt}
 use Rattle.bands.specs.declared.Grid.the-variants.{Utm}
 use Rattle.bands.specs.Bands.{gridOf}
 use Rattle.columns.specs.Columns.{columnsOf}
-use Rattle.columns.proofs.Guesses.{utmTable, columns-are, utm-letters}
+use Rattle.columns.proofs.Guesses.{utmTable, columnTable, columns-are, utm-letters}
+use Rattle.letters.proofs.Stretches.{lettersFrom}
 use Rattle.bands.proofs.ZoneNumber.{zone-less-fits}
 use Rattle.columns.proofs.column_letter.Statement.{statement}
 use Rattle.columns.proofs.column_letter.Tie as tie
@@ -71,9 +72,10 @@ returns-2 : tie.Need-returns-2
 unfolding columnsOf letterAt
 returns-2 c =
     let u = c .before .before .before .before .before in
-    let n = u .before .before .before .before .args .band in
-    let e = rw (u .ups-columns .ensures) at (c .letter-at2 .ensures) in
-    rw (sym (grid (c .before .before .before .before .before .before .before .before)) ∙ c .before .before .before .before .before .before .enum-told2 .given .1) (rw (columns-are n .letters) at e)
+    let a = u .before .before .before .before .args in
+    let t : c .letter-at2 .result ≡ getD (lettersFrom columnTable (u .ups-columns .result)) (a .place) 0 = c .letter-at2 .ensures in
+    let e = rw (u .ups-columns .ensures) at t in
+    rw (sym (grid (c .before .before .before .before .before .before .before .before)) ∙ c .before .before .before .before .before .before .enum-told2 .given .1) (rw (columns-are (a .band) .letters) at e)
 
 returns-3 : tie.Need-returns-3
 unfolding columnsOf letterAt

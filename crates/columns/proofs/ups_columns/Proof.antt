@@ -6,24 +6,18 @@ use borrow.Author.Needs.{needs}
 use Rattle.letters.specs.Letters.{UpsBands, placeOf}
 use Rattle.letters.specs.declared.Place.the-variants.{At}
 use Rattle.letters.proofs.Laws.{place-below}
-use Rattle.bands.specs.Bands.{gridOf, bandsOf}
 use Rattle.columns.proofs.Guesses.{stretch-of}
 use Rattle.columns.proofs.ups_columns.Statement.{statement}
 use Rattle.columns.proofs.ups_columns.Tie as tie
 
--- the bands of zone 0 are those of UPS
-polar : (c : tie.After-band-place) → c .band-place .result ≡ placeOf UpsBands (c .before .args .band)
-unfolding bandsOf gridOf
-polar c = c .band-place .ensures
-
 placed : (c : tie.After-k) → placeOf UpsBands (c .before .before .before .args .band) ≡ At (c .k .given .0 .0)
-placed c = sym (polar (c .before .before)) ∙ c .k .given .1
+placed c = sym (c .before .before .ups-place .ensures) ∙ c .k .given .1
 
 below : (c : tie.After-k) → c .k .given .0 .0 < 4
 below c = place-below UpsBands (c .before .before .before .args .band) (c .k .given .0 .0) (placed c)
 
 returns : tie.Need-returns
-returns c = let s = c .before .before .before in sym (rw (sym (polar (c .before .before)) ∙ c .enum-told .given .1) at (stretch-of (s .args .band) (s .fits .band .fits)))
+returns c = let s = c .before .before .before in sym (rw (sym (c .before .before .ups-place .ensures) ∙ c .enum-told .given .1) at (stretch-of (s .args .band) (s .fits .band .fits)))
 
 mul-result : tie.Need-mul-result
 mul-result c = let h = below (c .before) in search needs

@@ -2,7 +2,7 @@
 -- Assumes nothing.
 use mathlib.Core.Path.{_≡_, refl, sym, _∙_}
 use borrow.Author.Needs.{needs}
-use borrow.Author.Tests.{lt-ltb, le-ltb, le-leb, lt-leb, ltb-true, ltb-false, ne-eqb}
+use borrow.Author.Tests.{lt-ltb, le-ltb, le-leb, lt-leb, ltb-true, ltb-false, ne-eqb, not-true, not-false}
 use native.Mathlib.Omega.{arith}
 use mathlib.Core.Bool.{Bool, true, false, cond}
 use mathlib.Core.List.{List, [], _∷_}
@@ -15,7 +15,7 @@ use mir.Val.{toZ}
 use mir.Facts.{toZ-pos}
 use Rattle.letters.specs.declared.Place.{Place}
 use Rattle.letters.specs.declared.Place.the-variants.{At, NotInSet}
-use Rattle.letters.specs.Letters.{placeOf}
+use Rattle.letters.specs.Letters.{LetterSet, placeOf, byPlace, isIn}
 use Rattle.head.specs.declared.HeadAnswer.the-variants.{Start, NoStart}
 use Rattle.bands.specs.Bands.{bandsOf}
 use Rattle.whole.proofs.Parts.{clash}
@@ -27,8 +27,19 @@ use Rattle.head.specs.Head.{letterIn, isInv, zoneWrong, headOf}
 use Rattle.head.proofs.head_of.Statement.{statement}
 use Rattle.head.proofs.head_of.Tie as tie
 
-abbrev place : List ℕ → Place
-place s = placeOf (bandsOf (pos (leadOf s .value))) (letterIn s (leadOf s .count))
+abbrev has : List ℕ → Bool
+has s = isIn (bandsOf (pos (leadOf s .value))) (letterIn s (leadOf s .count))
+
+-- what does not ask for the place asks only whether there is one
+by-in : {A : Type 0} (p : Place) (x y : A) (t : Bool) → byPlace p false (λ k. true) ≡ t → byPlace p x (λ k. y) ≡ cond t y x
+by-in (At k) x y true e = refl
+by-in (At k) x y false e = clash (cc)
+by-in NotInSet x y true e = clash (cc)
+by-in NotInSet x y false e = refl
+
+answered : {A : Type 0} (set : LetterSet) (b : ℕ) (x y : A) (t : Bool) → isIn set b ≡ t → byPlace (placeOf set b) x (λ k. y) ≡ cond t y x
+unfolding isIn
+answered set b x y t e = by-in (placeOf set b) x y t e
 
 -- what is answered, by the tests that were passed
 module _ (s : List ℕ) (plain : hasHigh s ≡ false) where
@@ -52,14 +63,14 @@ module _ (s : List ℕ) (plain : hasHigh s ≡ false) where
         five e = rw (plain, inv, right, le-ltb 2 _ few, le-leb _ _ e)
 
         module _ (more : leadOf s .count < length s) where
-          six : place s ≡ NotInSet → NoStart 6 ≡ headOf s
+          six : has s ≡ false → NoStart 6 ≡ headOf s
           unfolding headOf
-          six n = rw (plain, inv, right, le-ltb 2 _ few, lt-leb _ _ more, n)
+          six n = rw (plain, inv, right, le-ltb 2 _ few, lt-leb _ _ more) (sym (answered _ _ _ _ false n))
 
-          start : (z : ℤ) (b k n : ℕ) → z ≡ pos (leadOf s .value) → b ≡ letterIn s (leadOf s .count) → place s ≡ At k → n ≡ leadOf s .count + 1
+          start : (z : ℤ) (b n : ℕ) → z ≡ pos (leadOf s .value) → b ≡ letterIn s (leadOf s .count) → has s ≡ true → n ≡ leadOf s .count + 1
               → Start (record { zone = z; band = b; next = n }) ≡ headOf s
           unfolding headOf
-          start z b k n ez eb ek en = rw (plain, inv, right, le-ltb 2 _ few, lt-leb _ _ more, ek, ez, eb, en)
+          start z b n ez eb h en = rw (plain, inv, right, le-ltb 2 _ few, lt-leb _ _ more, ez, eb, en) (sym (answered _ _ _ _ true h))
 
 -- ---- the digits that lead
 
@@ -156,7 +167,7 @@ cast-zone c =
     let l = lead (c .before .before .before .before .before .before) in
     rw (l .0) (record { sfits = omega (arith, l .1) })
 
--- the band and its place, of the zone and the letter as the text has them
+-- the band, and whether the zone has it, of the zone and the letter as the text has them
 zone : (c : tie.After-struct-known) → let l = c .before .before .before .before .before .before in let s = l .before .before .before .before .before .before .before .before in toZ w64 (l .lead .given .0 .0 .value) ≡ pos (leadOf (s .args .s .now) .value)
 zone c =
     let l = lead (c .before .before .before .before .before .before) in
@@ -165,25 +176,25 @@ zone c =
 band : (c : tie.After-capital) → let s = c .before .before .before .before .before .before .before .before .before .before .before .before .before .before .before .before in c .capital .result ≡ letterIn (s .args .s .now) (leadOf (s .args .s .now) .count)
 band c = rw (lead (c .before .before .before .before .before .before .before .before) .0) at (c .capital .ensures)
 
-place-is : (c : tie.After-band-place) → let s = c .before .before .before .before .before .before .before .before .before .before .before .before .before .before .before .before .before in c .band-place .result ≡ place (s .args .s .now)
-place-is c =
+has-is : (c : tie.After-is-band) → let s = c .before .before .before .before .before .before .before .before .before .before .before .before .before .before .before .before .before in c .is-band .result ≡ has (s .args .s .now)
+has-is c =
     let a = c .before in
-    rw (zone (a .before .before), band a) at (c .band-place .ensures)
+    rw (zone (a .before .before), band a) at (c .is-band .ensures)
 
 returns-7 : tie.Need-returns-7
 returns-7 c =
-    let p = c .before .before in
+    let p = c .before in
     let m = p .before .before .before .before in
     let f = m .before in
     let r = f .before in
     let l = r .before .before .before in
     let i = l .before .before .before in
     six _ (plain (i .before .before)) (no-inv i) (right r) (rw (lead l .0) at (f .if4 .left)) (rw (lead l .0) at (m .if5 .left))
-    (sym (place-is p) ∙ c .enum-told3 .given .1)
+    (sym (has-is p) ∙ not-true _ (c .if6 .taken))
 
 returns-8 : tie.Need-returns-8
 returns-8 c =
-    let p = c .before .before in
+    let p = c .before in
     let a = p .before in
     let m = a .before .before .before in
     let f = m .before in
@@ -191,7 +202,7 @@ returns-8 c =
     let l = r .before .before .before in
     let i = l .before .before .before in
     start _ (plain (i .before .before)) (no-inv i) (right r) (rw (lead l .0) at (f .if4 .left)) (rw (lead l .0) at (m .if5 .left))
-    _ _ _ _ (zone (a .before .before)) (band a) (sym (place-is p) ∙ c .enum-told2 .given .1) (rw (lead l .0))
+    _ _ _ (zone (a .before .before)) (band a) (sym (has-is p) ∙ not-false _ (c .if6 .left)) (rw (lead l .0))
 
 pub head-of-spec : {M : Type 1} → statement M
 head-of-spec =
@@ -199,5 +210,4 @@ head-of-spec =
     (tie.spec
     (λ c κs. search needs) returns (λ c κs. search needs) returns-2 (λ c κs. search needs) (λ c. search needs)
     (λ c. search needs) returns-3 is-zone-wrong-requires returns-4 returns-5 returns-6 cast-zone (λ c. search needs)
-    (λ c κs. search needs) (λ c κs. search needs) (λ c. search needs) (λ c. search needs) returns-7 (λ c. search needs)
-    returns-8)
+    (λ c κs. search needs) (λ c κs. search needs) returns-7 (λ c. search needs) returns-8)

@@ -3,11 +3,13 @@
 use mathlib.Core.Path.{_≡_, sym, _∙_}
 use Prim.Native.Nat.{_≤_}
 use borrow.Author.Needs.{needs}
+use lib.ListN.{getD}
 use mir.Facts.{toZ-ofZ}
 use Rattle.letters.specs.Letters.{letterAt}
 use Rattle.bands.specs.Bands.{gridOf}
 use Rattle.row_letters.specs.RowLetters.{rowsOf}
-use Rattle.row_letters.proofs.Guesses.{rows-are}
+use Rattle.row_letters.proofs.Guesses.{rowTable, rows-are}
+use Rattle.letters.proofs.Stretches.{lettersFrom}
 use Rattle.row_letters.proofs.row_letter.Statement.{statement}
 use Rattle.row_letters.proofs.row_letter.Tie as tie
 
@@ -37,9 +39,10 @@ returns-2 : tie.Need-returns-2
 unfolding rowsOf letterAt
 returns-2 c =
     let u = c .before .before .before .before .before in
-    let n = u .before .before .before .before .args .north in
-    let e = rw (u .ups-rows .ensures) at (c .letter-at2 .ensures) in
-    rw (sym (grid (c .before .before .before .before .before .before .before .before)) ∙ c .before .before .before .before .before .before .enum-told2 .given .1) (rw (rows-are n .letters) at e)
+    let a = u .before .before .before .before .args in
+    let t : c .letter-at2 .result ≡ getD (lettersFrom rowTable (u .ups-rows .result)) (a .place) 0 = c .letter-at2 .ensures in
+    let e = rw (u .ups-rows .ensures) at t in
+    rw (sym (grid (c .before .before .before .before .before .before .before .before)) ∙ c .before .before .before .before .before .before .enum-told2 .given .1) (rw (rows-are (a .north) .letters) at e)
 
 returns-3 : tie.Need-returns-3
 unfolding rowsOf letterAt

@@ -1,0 +1,3 @@
+mod Places
+mod Counts
+pub mod Unique
