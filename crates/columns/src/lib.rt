@@ -3,6 +3,11 @@ use bands::Grid;
 use letters::Place;
 use letters::Stretch;
 ghost use mathlib.Core.Path.{_≡_};
+ghost use Prim.Native.Nat.{_<_};
+ghost use lib.IntN.{pos, _-ℤ_};
+ghost use Rattle.whole.specs.Floor.{floorMod};
+ghost use Rattle.bands.specs.declared.Grid.the-variants.{Utm};
+ghost use Rattle.bands.specs.Bands.{gridOf};
 ghost use Rattle.letters.specs.Letters.{placeOf, letterAt, firstTile, tileIn};
 ghost use Rattle.columns.specs.Columns.{upsColumns, utmColumnsOf, columnsOf};
 ghost use Rattle.columns.specs.inner.Stretches.{columnStretch};
@@ -60,13 +65,21 @@ fn ups_columns(band: u8) -> Stretch
     STRETCHES[k]
 }
 
+// Which of the three sets a UTM zone uses.
+fn third_of(zone: i64) -> usize
+    requires { ⌜ gridOf zone ≡ Utm ⌝ }
+    ensures { λ r. ⌜ (r ≡ floorMod (zone -ℤ pos 1) 3) × (r < 3) ⌝ }
+{
+    whole::floor_mod(zone - 1, 3) as usize
+}
+
 // The place of a column's letter in a UTM zone.
 pub fn utm_place(zone: i64, letter: u8) -> Place
     ensures { λ r. ⌜ r ≡ placeOf (utmColumnsOf zone) letter ⌝ }
 {
     match bands::grid_of(zone) {
         Grid::Utm => {
-            let third = whole::floor_mod(zone - 1, 3) as usize;
+            let third = third_of(zone);
             let sets = UTM_COLUMNS;
             letters::confirmed(
                 &sets[third],
@@ -103,7 +116,7 @@ pub fn column_letter(zone: i64, band: u8, place: usize) -> u8
 {
     match bands::grid_of(zone) {
         Grid::Utm => {
-            let third = whole::floor_mod(zone - 1, 3) as usize;
+            let third = third_of(zone);
             let sets = UTM_COLUMNS;
             letters::letter_at(&sets[third], place)
         }
