@@ -1,261 +1,189 @@
-// One answer for each line of standard input, lines of any length, in fixed memory.
+// One answer for each line of standard input, lines of any length, in fixed memory. All that is done to the bytes is done by
+// `lines`; here they are only read, in `fill`, and written, in `send`.
 use libc::STDIN_FILENO;
 use libc::STDOUT_FILENO;
-use writer::Written;
+use lines::Run;
+use listing::Form;
+ghost use mathlib.Core.Bool.{false};
+ghost use mathlib.Core.Path.{_≡_};
 ghost use Prim.Native.Nat.{_<_, _≤_};
+ghost use lib.IntN.{pos};
 ghost use lib.ListN.{length};
+ghost use Rattle.courses.specs.inner.Programs.{Reached, Closed, Delivered, Sent, Waits};
 
-// A line over 64 bytes is answered by that alone, so of a line that a read cut, 65 bytes say enough.
-const KEPT: usize = 65;
-
-// No line's answer takes more bytes.
-const ANSWER: usize = 128;
-
-// How a run stands.
-const READING: u8 = 0;
+// How the program stands: it goes on; the input has ended; a read failed; a write failed.
+const GOING: u8 = 0;
 
 const ENDED: u8 = 1;
 
-const FAILED: u8 = 2;
+const UNREAD: u8 = 2;
 
-// What was listed: how many lines, how many bytes of output wait to be written, and how the run stands.
-struct Sheet {
-    number: u64,
-    used: usize,
+const UNWRITTEN: u8 = 3;
+
+struct Place {
+    run: Run,
     how: u8,
 }
 
-// After one read: where the bytes in the input buffer end, and how the run stands.
-struct Filled {
-    end: usize,
-    how: u8,
-}
-
-// After the lines that one read ended: where the open line starts, and what was listed.
-struct Passed {
-    from: usize,
-    sheet: Sheet,
-}
-
-// Between two reads: how many bytes of the open line stand at the front of the input buffer, and what was listed.
-struct Run {
-    held: usize,
-    sheet: Sheet,
-}
-
-// The next line's number. At the top it stays, so that no sum wraps.
-fn next(number: u64) -> u64 {
-    if number < u64::MAX {
-        number + 1
-    } else {
-        number
-    }
-}
-
-// Writes what waits, or says why it cannot. Either way nothing waits any more.
-fn write_out(out: &[u8], sheet: Sheet) -> Sheet
-    requires { ⌜ sheet .used ≤ length (now out) ⌝ }
-    ensures { λ r. ⌜ r .used ≤ length (now (out .entry)) ⌝ }
+// After a read that answered `got`. One that a signal interrupted brought nothing, and the next may bring more.
+fn after_read(got: isize) -> u8
+    ensures { λ r. ⌜ (r ≡ 1 → got ≡ pos 0) ⌝ }
 {
-    let used = sheet.used;
-    let mut how = sheet.how;
-    if !io::write_all(STDOUT_FILENO, &out[..used]) {
-        os::fail(b"write");
-        how = FAILED;
-    }
-    Sheet {
-        number: sheet.number,
-        used: 0,
-        how,
-    }
-}
-
-// Writes what waits where one more answer may lack room.
-fn make_room(out: &[u8], sheet: Sheet) -> Sheet
-    requires { ⌜ sheet .used ≤ length (now out) ⌝ }
-    ensures { λ r. ⌜ r .used ≤ length (now (out .entry)) ⌝ }
-{
-    if out.len() - sheet.used < ANSWER {
-        return write_out(out, sheet);
-    }
-    sheet
-}
-
-// Puts one line's answer behind what waits.
-fn put_line(line: &[u8], out: &mut [u8], sheet: Sheet) -> Sheet
-    requires { ⌜ sheet .used ≤ length (now out) ⌝ }
-    ensures { λ r. ⌜ r .used ≤ length (now (out .exit)) ⌝ }
-{
-    let ready = make_room(out, sheet);
-    let how = ready.how;
-    if how == FAILED {
-        return ready;
-    }
-    let to = ready.used;
-    let number = next(ready.number);
-    match listing::list_line(line, number, &mut out[to..]) {
-        Written::Length(n) => Sheet {
-            number,
-            used: to + n,
-            how,
-        },
-        // There is room, so this does not occur.
-        Written::Refused(_) => Sheet {
-            number,
-            used: to,
-            how,
-        },
-    }
-}
-
-// Lists each line that ends in buf, whose first `held` bytes have no line feed.
-fn put_lines(buf: &[u8], held: usize, out: &mut [u8], start: Sheet) -> Passed
-    requires { ⌜ held ≤ length (now buf) ⌝ }
-    requires { ⌜ start .used ≤ length (now out) ⌝ }
-    ensures { λ r. ⌜ r .from ≤ length (now (buf .entry)) ⌝ }
-    ensures { λ r. ⌜ r .sheet .used ≤ length (now (out .exit)) ⌝ }
-{
-    let mut sheet = start;
-    let mut from = 0;
-    let mut feed = bytes::scan::find(buf, held, buf.len(), b'\n');
-    while feed < buf.len() {
-        sheet = put_line(&buf[from..feed], out, sheet);
-        if sheet.how == FAILED {
-            break;
-        }
-        from = feed + 1;
-        feed = bytes::scan::find(buf, from, buf.len(), b'\n');
-    }
-    Passed { from, sheet }
-}
-
-// Moves the start of the open line, buf[from..end], to the front, and answers how many bytes it kept.
-fn keep(buf: &mut [u8], from: usize, end: usize) -> usize
-    requires { ⌜ from ≤ end ⌝ }
-    requires { ⌜ end ≤ length (now buf) ⌝ }
-    ensures { λ r. ⌜ r ≤ 65 ⌝ }
-{
-    let mut at = from;
-    let mut held = 0;
-    while at < end {
-        if held == KEPT {
-            break;
-        }
-        buf[held] = buf[at];
-        held += 1;
-        at += 1;
-    }
-    held
-}
-
-// How the run stands after a read that answered `got`. One that a signal interrupted is made again.
-fn after_read(got: isize) -> u8 {
     if got == 0 {
         return ENDED;
     }
     if got < 0 {
         if os::errno() != libc::EINTR {
             os::fail(b"read");
-            return FAILED;
+            return UNREAD;
         }
     }
-    READING
+    GOING
 }
 
-// One read, behind the bytes that are held. There is room, so that an empty read means the end.
-fn fill(buf: &mut [u8], held: usize) -> Filled
-    requires { ⌜ held < length (now buf) ⌝ }
-    ensures { λ r. ⌜ held ≤ r .end ⌝ }
-    ensures { λ r. ⌜ r .end ≤ length (now (buf .exit)) ⌝ }
+// One read, behind the bytes that wait. There is room, so that an empty read means the end.
+fn fill(buf: &mut [u8], run: Run) -> Place
+    requires { ⌜ run .end < length (now buf) ⌝ }
+    ensures { λ r. ⌜ Delivered (now (buf .entry)) (now (buf .exit)) run (r .run) × (r .how ≡ 1 → r .run .more ≡ run .more) ⌝ }
 {
-    let got = libc::read(STDIN_FILENO, &mut buf[held..]);
+    let at = run.end;
+    let got = libc::read(STDIN_FILENO, &mut buf[at..]);
     let how = after_read(got);
-    let end = held + io::count(got, &buf[held..]);
-    Filled { end, how }
+    let n = io::count(got, &buf[at..]);
+    let run = lines::received(buf, run, n);
+    Place { run, how }
 }
 
-// One read, and the lines that it ends.
-fn turn(buf: &mut [u8], out: &mut [u8], run: Run) -> Run
-    requires { ⌜ (65 < length (now buf)) × (run .held ≤ 65) ⌝ }
-    requires { ⌜ run .sheet .used ≤ length (now out) ⌝ }
-    ensures { λ r. ⌜ r .held ≤ 65 ⌝ }
-    ensures { λ r. ⌜ r .sheet .used ≤ length (now (out .exit)) ⌝ }
+// After a write of some bytes that answered `got`. One that a signal interrupted took none, and the next may take them.
+fn after_write(got: isize) -> u8
+    ensures { λ r. ⌜ (r ≡ 1 → ⊥) ⌝ }
 {
-    let held = run.held;
-    let before = run.sheet;
-    let filled = fill(buf, held);
-    if filled.how != READING {
-        let sheet = Sheet {
-            number: before.number,
-            used: before.used,
-            how: filled.how,
-        };
-        return Run { held, sheet };
+    if 0 < got {
+        return GOING;
     }
-    let end = filled.end;
-    let passed = put_lines(&buf[..end], held, out, before);
-    let sheet = passed.sheet;
-    let kept = keep(buf, passed.from, end);
-    Run { held: kept, sheet }
+    if got < 0 {
+        if os::errno() == libc::EINTR {
+            return GOING;
+        }
+    }
+    os::fail(b"write");
+    UNWRITTEN
 }
 
-// A proved loop has to end, and nothing says that the input does: it counts down from a number that no run uses up.
-fn read_all(buf: &mut [u8], out: &mut [u8]) -> Run
-    requires { ⌜ 65 < length (now buf) ⌝ }
-    ensures { λ r. ⌜ r .held ≤ 65 ⌝ }
-    ensures { λ r. ⌜ r .sheet .used ≤ length (now (out .exit)) ⌝ }
+// One write, of the bytes that wait.
+fn send(out: &[u8], run: Run) -> Place
+    requires { ⌜ Waits (now out) run ⌝ }
+    ensures { λ r. ⌜ Sent run (r .run) × Waits (now (out .entry)) (r .run) × (r .how ≡ 1 → ⊥) ⌝ }
 {
-    let sheet = Sheet {
-        number: 0,
-        used: 0,
-        how: READING,
-    };
-    let mut run = Run { held: 0, sheet };
+    let from = run.sent;
+    let to = run.used;
+    let got = libc::write(STDOUT_FILENO, &out[from..to]);
+    let how = after_write(got);
+    let n = io::count(got, &out[from..to]);
+    let run = lines::written(run, n);
+    Place { run, how }
+}
+
+// Writes all that waits, in as many pieces as the system takes. A proved loop has to end, and nothing says that the writes
+// do: this one and that of `read_all` count down from a number that no run uses up.
+fn send_all(out: &[u8], run: Run) -> Place
+    requires { ⌜ Waits (now out) run ⌝ }
+    ensures { λ r. ⌜ Sent run (r .run) × Waits (now (out .entry)) (r .run) × (r .how ≡ 1 → ⊥) × (r .how ≡ 0 → r .run .used ≡ 0) ⌝ }
+{
+    let mut place = Place { run, how: GOING };
     let mut turns = u64::MAX;
     while 0 < turns {
         turns -= 1;
-        run = turn(buf, out, run);
-        if run.sheet.how != READING {
+        if place.run.used == 0 {
+            return place;
+        }
+        let run = place.run;
+        place = send(out, run);
+        if place.how != GOING {
+            return place;
+        }
+    }
+    let run = place.run;
+    Place {
+        run,
+        how: UNWRITTEN,
+    }
+}
+
+// Lists what waits. Where the output is full, it is written.
+fn list(buf: &mut [u8], out: &mut [u8], run: Run) -> Place
+    requires { ⌜ Reached (now buf) (now out) run ⌝ }
+    ensures { λ r. ⌜ Reached (now (buf .exit)) (now (out .exit)) (r .run) × (r .how ≡ 1 → ⊥) ⌝ }
+{
+    let next = lines::step(buf, out, run);
+    if next.more {
+        return send_all(out, next);
+    }
+    Place {
+        run: next,
+        how: GOING,
+    }
+}
+
+// Lists what waits, and reads where nothing does.
+fn turn(buf: &mut [u8], out: &mut [u8], run: Run) -> Place
+    requires { ⌜ 65 < length (now buf) ⌝ }
+    requires { ⌜ Reached (now buf) (now out) run ⌝ }
+    ensures { λ r. ⌜ Reached (now (buf .exit)) (now (out .exit)) (r .run) × (r .how ≡ 1 → r .run .more ≡ false) ⌝ }
+{
+    if run.more {
+        return list(buf, out, run);
+    }
+    fill(buf, run)
+}
+
+// All turns, until the input ends or a read or a write fails.
+fn read_all(buf: &mut [u8], out: &mut [u8]) -> Place
+    requires { ⌜ 65 < length (now buf) ⌝ }
+    ensures { λ r. ⌜ Reached (now (buf .exit)) (now (out .exit)) (r .run) × (r .how ≡ 1 → r .run .more ≡ false) ⌝ }
+{
+    let run = lines::start(Form::Plain);
+    let mut place = Place { run, how: GOING };
+    let mut turns = u64::MAX;
+    while 0 < turns {
+        turns -= 1;
+        let run = place.run;
+        place = turn(buf, out, run);
+        if place.how != GOING {
             break;
         }
     }
-    run
+    place
 }
 
-// The last line, where the input did not end it.
-fn put_last(buf: &[u8], out: &mut [u8], run: Run) -> Sheet
-    requires { ⌜ run .held ≤ length (now buf) ⌝ }
-    requires { ⌜ run .sheet .used ≤ length (now out) ⌝ }
-    ensures { λ r. ⌜ r .used ≤ length (now (out .exit)) ⌝ }
+// After the end of the input: what waits, and the last line where there is one.
+fn close(buf: &[u8], out: &mut [u8], run: Run) -> Place
+    requires { ⌜ (128 ≤ length (now out)) × (run .more ≡ false) ⌝ }
+    requires { ⌜ Reached (now buf) (now out) run ⌝ }
+    ensures { λ r. ⌜ (r .how ≡ 0 → Closed (now (buf .entry)) (now (out .exit)) (r .run)) ⌝ }
 {
-    let held = run.held;
-    let sheet = run.sheet;
-    if held == 0 {
-        return sheet;
+    let freed = send_all(out, run);
+    if freed.how != GOING {
+        return freed;
     }
-    put_line(&buf[..held], out, sheet)
+    let before = freed.run;
+    let last = lines::finish(buf, out, before);
+    send_all(out, last)
 }
 
-// The last line, and all that still waits.
-fn finish(buf: &[u8], out: &mut [u8], run: Run)
-    requires { ⌜ run .held ≤ length (now buf) ⌝ }
-    requires { ⌜ run .sheet .used ≤ length (now out) ⌝ }
-{
-    let sheet = put_last(buf, out, run);
-    if sheet.how == FAILED {
-        return;
-    }
-    write_out(out, sheet);
-}
-
-// After a failure nothing more is written.
+// Where a read failed, what is answered is written all the same; where a write failed, nothing more is.
 fn main() {
     let mut input = io::large_buffer();
     let buf: &mut [u8] = &mut input;
     let mut output = io::large_buffer();
     let out: &mut [u8] = &mut output;
-    let run = read_all(buf, out);
-    if run.sheet.how == ENDED {
-        finish(buf, out, run);
+    let end = read_all(buf, out);
+    let run = end.run;
+    if end.how == ENDED {
+        close(buf, out, run);
+        return;
+    }
+    if end.how != UNWRITTEN {
+        send_all(out, run);
     }
 }

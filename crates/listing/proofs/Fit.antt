@@ -42,6 +42,6 @@ text-le n (Square q) = position-le n q
 text-le n (Bare q) = position-le n q
 text-le n (Refused k) = refusal-le n k
 
-pub line-le : (n : ℕ) (s : List ℕ) → length (lineOf n s) ≤ 128
+pub line-le : (read : List ℕ → Answer) (n : ℕ) (s : List ℕ) → length (lineOf read n s) ≤ 128
 unfolding lineOf
-line-le n s = text-le n (answerOf s)
+line-le read n s = text-le n (answerOf read s)

@@ -3,11 +3,12 @@
 use mathlib.Core.List.{List}
 use Prim.Native.Nat.{ℕ}
 use lib.ListN.{length}
+use Rattle.reader.specs.declared.Answer.{Answer}
 use Rattle.writer.specs.declared.Written.the-variants.{Refused}
 use Rattle.writer.specs.Write.{fitOf, leavesOf}
 use Rattle.writer.specs.Stays.{Stays}
 use Rattle.writer.proofs.Fit.{fit-stays}
 use Rattle.listing.specs.Listing.{lineOf}
 
-pub list-line-stays : (number : ℕ) (s l : List ℕ) → Stays Refused (fitOf (lineOf number s) (length l)) l (leavesOf (lineOf number s) l)
-list-line-stays number s l = fit-stays (lineOf number s) l
+pub list-line-stays : (read : List ℕ → Answer) (number : ℕ) (s l : List ℕ) → Stays Refused (fitOf (lineOf read number s) (length l)) l (leavesOf (lineOf read number s) l)
+list-line-stays read number s l = fit-stays (lineOf read number s) l

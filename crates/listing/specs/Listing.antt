@@ -9,6 +9,8 @@ use Rattle.position.specs.declared.Position.{Position}
 use Rattle.reader.specs.declared.Answer.{Answer}
 use Rattle.reader.specs.declared.Answer.the-variants.{Square, Bare, Refused}
 use Rattle.reader.specs.Read.{readOf}
+use Rattle.listing.specs.declared.Form.{Form}
+use Rattle.listing.specs.declared.Form.the-variants.{Plain}
 use Rattle.listing.specs.Numerals.{decimal, signed}
 
 -- "one space stands between fields": a space and a field.
@@ -43,10 +45,14 @@ textOf number (Square q) = zoneText number q ++ unitsText q
 textOf number (Bare q) = zoneText number q ++ unitsText q
 textOf number (Refused k) = refusalText number k
 
--- "a line over 64 bytes, its LF aside, gives 23 before any reading"
-unfoldable pub answerOf : List ℕ → Answer
-answerOf s = cond (ltb 64 (length s)) (Refused 23) (readOf s)
+-- How a text of a form is read.
+unfoldable pub readBy : Form → List ℕ → Answer
+readBy Plain = readOf
 
--- The line of a text, under its number.
-unfoldable pub lineOf : ℕ → List ℕ → List ℕ
-lineOf number s = textOf number (answerOf s)
+-- "a line over 64 bytes, its LF aside, gives 23 before any reading", whatever reads it.
+unfoldable pub answerOf : (List ℕ → Answer) → List ℕ → Answer
+answerOf read s = cond (ltb 64 (length s)) (Refused 23) (read s)
+
+-- The answer of a line, under its number.
+unfoldable pub lineOf : (List ℕ → Answer) → ℕ → List ℕ → List ℕ
+lineOf read number s = textOf number (answerOf read s)

@@ -9,8 +9,14 @@ ghost use lib.ListN.{length, drop};
 ghost use lib.Seq.{sets};
 ghost use Rattle.runs.specs.Runs.{lastDigits};
 ghost use Rattle.listing.specs.Numerals.{decimal, signed};
-ghost use Rattle.listing.specs.Listing.{sideLetter, field, letter, answerOf, zoneText, unitsText, refusalText, textOf, lineOf};
+ghost use Rattle.reader.specs.Read.{readOf};
+ghost use Rattle.listing.specs.Listing.{sideLetter, field, letter, readBy, answerOf, zoneText, unitsText, refusalText, textOf, lineOf};
 ghost use Rattle.writer.specs.Write.{fitOf, leavesOf};
+
+// What the text of a line is written in, which tells how it is read.
+pub enum Form {
+    Plain,
+}
 
 // A line is made from its end to its start, so that no number has to be counted before it is written; `at` is where its
 // text begins so far. 128 bytes hold the longest: five numbers of 20 bytes, two letters, six blanks and the line feed.
@@ -170,21 +176,30 @@ fn put_answer(line: &mut [u8], number: u64, answer: Answer) -> usize
 }
 
 // A line over 64 bytes is not read.
-fn answer_of(text: &[u8]) -> Answer
-    ensures { λ r. ⌜ r ≡ answerOf (now (text .entry)) ⌝ }
+fn answer_of(form: Form, text: &[u8]) -> Answer
+    ensures { λ r. ⌜ r ≡ answerOf (readBy form) (now (text .entry)) ⌝ }
 {
     if 64 < text.len() {
         return Answer::Refused(23);
     }
-    reader::read(text)
+    match form {
+        Form::Plain => reader::read(text),
+    }
 }
 
-// Puts the line of a text, under its number, at the buffer's start: its length, or 20 where it does not fit.
+// Puts the line of a plain text, under its number, at the buffer's start: its length, or 20 where it does not fit.
 pub fn list_line(text: &[u8], number: u64, out: &mut [u8]) -> Written
-    ensures { λ r. ⌜ (r ≡ fitOf (lineOf number (now (text .entry))) (length (now (out .entry)))) × (now (out .exit) ≡ leavesOf (lineOf number (now (text .entry))) (now (out .entry))) ⌝ }
+    ensures { λ r. ⌜ (r ≡ fitOf (lineOf readOf number (now (text .entry))) (length (now (out .entry)))) × (now (out .exit) ≡ leavesOf (lineOf readOf number (now (text .entry))) (now (out .entry))) ⌝ }
+{
+    list_line_by(Form::Plain, text, number, out)
+}
+
+// The same of a text of any form.
+pub fn list_line_by(form: Form, text: &[u8], number: u64, out: &mut [u8]) -> Written
+    ensures { λ r. ⌜ (r ≡ fitOf (lineOf (readBy form) number (now (text .entry))) (length (now (out .entry)))) × (now (out .exit) ≡ leavesOf (lineOf (readBy form) number (now (text .entry))) (now (out .entry))) ⌝ }
 {
     let mut line = [0u8; 128];
-    let at = put_answer(&mut line, number, answer_of(text));
+    let at = put_answer(&mut line, number, answer_of(form, text));
     let n = 128 - at;
     if out.len() < n {
         return Written::Refused(20);

@@ -1,0 +1,102 @@
+-- A program whose functions keep to their contracts goes by a course, and ends with the listing. Assumes nothing.
+use mathlib.Core.Path.{_≡_, refl, sym, ap, _∙_}
+use mathlib.Core.Bool.{Bool, true, false, cond}
+use mathlib.Core.List.{List}
+use Prim.Native.Nat.{ℕ, _+_, _-_, _≤_, _<_}
+use native.Mathlib.Omega.{arith}
+use borrow.Author.Tests.{eq-eqb}
+use lib.ListN.{length, take, drop, length-drop}
+use lib.Seq.{length-take-le}
+use Rattle.listing.specs.declared.Form.{Form}
+use Rattle.lines.specs.declared.Run.{Run}
+use Rattle.lines.specs.Lines.{listingOf}
+use Rattle.lines.specs.inner.Steps.{top, readerOf, lastOf, roomOf, pendingOf, lastText, lastOut, lastRun, startRun, stepRun, stepBuf, stepOut, finishRun, finishOut, receivedRun, writtenRun}
+use Rattle.courses.specs.Courses.{State, Course, begins, steps, writes, Ending, finishes, writes-on}
+use Rattle.courses.specs.inner.Programs.{Reached, Closed, Delivered, Sent, none, one, Waits}
+use Rattle.courses.proofs.Stands.{Stands, course-stands, put-within, text-le, sent-bound}
+use Rattle.courses.proofs.Whole.{read-block, whole-listing, ends, finish-run, finish-out}
+
+-- what a reached state keeps to
+pub stands : {buf out : List ℕ} {run : Run} (r : Reached buf out run) → Stands (record { input = r .input; output = r .output; buf = buf; out = out; run = run })
+stands r = course-stands (r .course)
+
+pub waits : {buf out : List ℕ} {run : Run} → Reached buf out run → Waits out run
+waits r = record { sent = stands r .sent; used = stands r .used }
+
+-- ---- reads, steps and writes
+
+pub start-reached : (form : Form) (buf out : List ℕ) (r : Run) → r ≡ startRun form → Reached buf out r
+start-reached form buf out r e = rw e (record { input = _; output = _; course = begins form buf out })
+
+pub delivered-reached : (before after out : List ℕ) (run r : Run) → Reached before out run → Delivered before after run r → Reached after out r
+delivered-reached before after out run r h d =
+    let b : List ℕ = take (d .count) (drop (run .end) after) in
+    let n : length b ≡ d .count = length-take-le (d .count) (drop (run .end) after) (simp length-drop (omega (arith, d .fits))) in
+    rw (d .is ∙ ap (receivedRun (length after) run) (sym n))
+    (record { input = _; output = _; course = read-block after (d .count) (h .course) (d .fits) (d .front) })
+
+pub stepped-reached : (buf out : List ℕ) (run : Run) (buf′ out′ : List ℕ) (r : Run) → Reached buf out run
+    → (r ≡ stepRun buf out run) × (buf′ ≡ stepBuf buf out run) × (out′ ≡ stepOut buf out run) → Reached buf′ out′ r
+stepped-reached buf out run buf′ out′ r h e = rw (e .0, e .1, e .2) (record { input = _; output = _; course = steps (h .course) })
+
+pub sent-reached : (buf out : List ℕ) (run r : Run) → Reached buf out run → Sent run r → Reached buf out r
+sent-reached buf out run r h none = h
+sent-reached buf out run r h (one {r = q} n s) = let x = sent-reached buf out run q h s in record { input = _; output = _; course = writes n (x .course) }
+
+pub sent-more : (run r : Run) → Sent run r → r .more ≡ run .more
+unfolding writtenRun
+sent-more run r none = refl
+sent-more run r (one {r = q} n s) = sent-more run q s
+
+-- writes after writes
+pub sent-on : (a b c : Run) → Sent a b → Sent b c → Sent a c
+sent-on a b c s none = s
+sent-on a b c s (one {r = q} n t) = one n (sent-on a b q s t)
+
+pub written-sent : (run r : Run) (n : ℕ) → r ≡ writtenRun run n → Sent run r
+written-sent run r n e = rw e (one n none)
+
+-- a read that brings nothing leaves no line where none was left
+pub none-more : (size n : ℕ) (run r : Run) → r ≡ receivedRun size run n → n ≡ 0 → r .more ≡ run .more
+unfolding receivedRun
+none-more size n run r e z = rw (e, eq-eqb n 0 z)
+
+pub written-waits : (out : List ℕ) (run r : Run) (n : ℕ) → Waits out run → r ≡ writtenRun run n → Waits out r
+written-waits out run r n h e = let b = sent-bound out run n (h .used) in rw e (record { sent = b .0; used = b .1 })
+
+-- ---- the end
+
+module _ (buf out : List ℕ) (run : Run) (w : Waits out run) where
+  last-waits : Waits (lastOut buf out run) (lastRun buf out run)
+  unfolding lastOut lastRun lastText roomOf
+  last-waits =
+      let n : length (take (run .used) out) ≡ run .used = length-take-le (run .used) out (w .used) in
+      record {
+        sent = omega (arith, w .sent);
+        used = put-within out (run .used) _ (text-le (readerOf run) (length out - run .used) (run .number) (lastOf (pendingOf buf run)));
+      }
+
+  pub finish-waits : run .more ≡ false → (out′ : List ℕ) (r : Run) → (r ≡ finishRun buf out run) × (out′ ≡ finishOut buf out run) → Waits out′ r
+  finish-waits m out′ r e = rw (e .0, e .1, finish-run buf out run m, finish-out buf out run m) last-waits
+
+record Over (buf out : List ℕ) (run : Run) : Type 0 where
+  input : List ℕ
+  output : List ℕ
+  ending : Ending (record { input = input; output = output; buf = buf; out = out; run = run })
+
+sent-over : (buf out : List ℕ) (run r : Run) → Over buf out run → Sent run r → Over buf out r
+sent-over buf out run r h none = h
+sent-over buf out run r h (one {r = q} n s) = let x = sent-over buf out run q h s in record { input = _; output = _; ending = writes-on n (x .ending) }
+
+-- After `finish`, with nothing left and room for one line, all that is left to do is to write.
+pub closes : (buf out : List ℕ) (run : Run) (out′ : List ℕ) (r q : Run) → Reached buf out run → run .more ≡ false → 128 ≤ length out → run .used ≡ 0
+    → (r ≡ finishRun buf out run) × (out′ ≡ finishOut buf out run) → Sent r q → q .used ≡ 0 → Closed buf out′ q
+unfolding roomOf
+closes buf out run out′ r q h m room free e s z =
+    let o : Over buf out′ r = rw (e .0, e .1) (record { input = _; output = _; ending = finishes (h .course) (ends buf out run m (omega arith)) }) in
+    let x = sent-over buf out′ r q o s in
+    record { input = x .input; output = x .output; ending = x .ending; none = z }
+
+-- THE CLAIM, for a program: what it has written when it is closed is the listing of what it has read.
+pub closed-listing : {buf out : List ℕ} {run : Run} (c : Closed buf out run) → length (c .input) < top → c .output ≡ listingOf (readerOf run) (c .input)
+closed-listing c n = whole-listing (c .ending) (omega (arith, c .none)) n

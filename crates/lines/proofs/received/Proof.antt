@@ -1,0 +1,17 @@
+-- `lines::received` meets its contract: no sum wraps.
+-- Assumes nothing.
+use Rattle.lines.proofs.Runs.{received-none, received-some}
+use borrow.Author.Needs.{needs}
+use Rattle.lines.proofs.received.Statement.{statement}
+use Rattle.lines.proofs.received.Tie as tie
+
+returns : tie.Need-returns
+returns c = received-none _ _ (c .before .before .args .run) (c .if1 .taken)
+
+returns-2 : tie.Need-returns-2
+returns-2 c =
+    let e = c .before .before in
+    received-some _ _ (e .before .before .args .run) _ _ (e .if1 .left) (c .before .least .ensures) (c .least2 .ensures)
+
+pub received-spec : {M : Type 1} → statement M
+received-spec = tie.close (tie.spec returns (λ c κs. search needs) (λ c. search needs) (λ c κs. search needs) (λ c. search needs) returns-2)
