@@ -10,13 +10,15 @@ only because a proof no longer fits code that still answers rightly. So this app
 on it unproved, and names the first line that differs from the program's stdout, what is said in its place, and for list
 the text that the line answers; for vectors, where a recorded answer differs, that line and the answer in its place. The
 program is list for the edits of words, runs, spelling, head, block, reader and listing, and where that shows nothing
-vectors; for all others vectors, and where that shows nothing corners for those of composer, writer, squares and trip,
+vectors; for those of lines list, and where that shows nothing list without its last line, which is not ended; for all others vectors, and where that shows nothing corners for those of composer, writer, squares and trip,
 list for the rest. An edit of laws or of a definition changes what is claimed, and is not run. Run it at the
 repository's root after an edit or an example is added; it ends with status 1 if some edit changes nothing.
 """
 import glob, os, re, shutil, subprocess, sys, tempfile
 
+ENDED = "list, its input ended by LF"
 PROGRAMS = {crate: ("list", "vectors") for crate in ("words", "runs", "spelling", "head", "block", "reader", "listing")}
+PROGRAMS["lines"] = ("list", ENDED)
 PROGRAMS.update((crate, ("vectors", "corners")) for crate in ("composer", "writer", "squares", "trip"))
 
 
@@ -35,8 +37,19 @@ def changed(scratch, crate, path):
     open(target, "w").write(text)
 
 
+def ended(scratch):
+    """Takes the last line, which is not ended, from list's input and its answer from what it has to write."""
+    for name, cut in (("stdin", 1), ("stdout", 2)):
+        path = os.path.join(scratch, "crates", "list", name)
+        data = open(path, "rb").read()
+        open(path, "wb").write(data[: len(data) - len(data.split(b"\n")[-cut]) - cut + 1])
+
+
 def shown(scratch, program):
     """What the program prints otherwise, or nothing."""
+    if program == ENDED:
+        ended(scratch)
+        program = "list"
     run = subprocess.run(["rt", "try", program], cwd=scratch, capture_output=True, text=True)
     if run.returncode == 0:
         return ""
@@ -54,13 +67,13 @@ def shown(scratch, program):
     told = re.match(r"(line .*?)\\n  here: (.*?)\\n", at.group(2))
     if told:
         return f"{program} differs at: {told[1]}, and says: {told[2]}"
-    lines = open(os.path.join("crates", program, "stdout"), "rb").read()
+    lines = open(os.path.join(scratch, "crates", program, "stdout"), "rb").read()
     byte = int(at.group(1))
     start = lines.rfind(b"\n", 0, byte) + 1
-    right = lines[start:].split(b"\n")[0].decode()
+    right = lines[start:].split(b"\n")[0].decode() or "the end"
     what = f"{program} differs at: {right}, and says: " + lines[start:byte].decode() + at.group(2).split("\\n")[0][:80]
-    if program == "list" and right:
-        text = open(os.path.join("crates", "list", "stdin"), "rb").read().split(b"\n")[int(right.split()[0]) - 1]
+    if program == "list" and right != "the end":
+        text = open(os.path.join(scratch, "crates", "list", "stdin"), "rb").read().split(b"\n")[int(right.split()[0]) - 1]
         what += ", of: " + repr(text)[1:]
     return what
 

@@ -1,13 +1,13 @@
 #!/usr/bin/env python3
 """Runs the built program list on hostile inputs and holds it to model/list.py: lines of every length across every place of a
-block's end, pieces through a pipe, interrupted and short reads and writes, and failures.
+block's end, pieces through a pipe, interrupted and short reads and writes, failures, and the memory that it takes.
 
     model/stress.py            all of that, in a minute or two; ends with status 1 if something differs
     model/stress.py --speed    lines a second on 1,000,000 references
 
 Run it at the repository's root after `rt check list`. It is no part of the gate.
 """
-import os, random, resource, shutil, signal, subprocess, sys, tempfile, threading, time
+import os, random, re, resource, shutil, signal, socket, struct, subprocess, sys, tempfile, threading, time
 
 from list import BANDS, COLUMNS, ROWS, listing as model
 
@@ -22,7 +22,8 @@ else:
     command = [tools + "/bin/qemu-x86_64", tools + "/lib/ld-linux-x86-64.so.2", "--library-path", tools + "/lib", program]
 BLOCK = 65536
 
-# Stands before the C library: reads are interrupted or short, and writes short, at random.
+# Stands before the C library: reads and writes are interrupted or short, at random. With BREAKS, each read brings PIECE bytes
+# and all after the first BREAKS fail; writes are not short then.
 FAULTS = r"""
 typedef unsigned long size_t; typedef long ssize_t;
 extern int *__errno_location(void);
@@ -36,6 +37,7 @@ ssize_t read(int fd, void *buf, size_t n) {
 #ifdef BREAKS
     static int calls;
     if (fd == 0 && ++calls > BREAKS) { *__errno_location() = 5; return -1; }
+    if (fd == 0 && n > PIECE) n = PIECE;
     return done(call(0, fd, (long)buf, (long)n));
 #endif
     static unsigned k;
@@ -45,8 +47,12 @@ ssize_t read(int fd, void *buf, size_t n) {
     return done(call(0, fd, (long)buf, (long)n));
 }
 ssize_t write(int fd, const void *buf, size_t n) {
+#ifdef BREAKS
+    return done(call(1, fd, (long)buf, (long)n));
+#endif
     static unsigned k = 7;
     k = k * 1103515245u + 12345u;
+    if (fd == 1 && (k >> 16) % 4 == 1) { *__errno_location() = 4; return -1; }
     if (fd == 1 && (k >> 16) % 2 == 0) { size_t m = 1 + (k >> 18) % 9000; if (m < n) n = m; }
     return done(call(1, fd, (long)buf, (long)n));
 }
@@ -178,8 +184,71 @@ def at_random():
         yield f"random {seed}", bytes(out[: r.choice([len(out), limit])])
 
 
+def told(name, ok, *what):
+    tally["failures"] = tally.get("failures", 0) + 1
+    print("failure:", name, "->", *what, "ok" if ok else "BAD")
+    if not ok:
+        bad.append(name)
+
+
+def answered(data):
+    """The answers of the lines that end in data, of which no read has told the end."""
+    return model(data[: data.rfind(b"\n") + 1])
+
+
+def read_fails(breaks, piece):
+    """After some reads of piece bytes one fails: the lines that had ended are answered, and the reason is given."""
+    words = faulty(f"-DBREAKS={breaks}", f"-DPIECE={piece}")
+    if words:
+        r = random.Random(breaks)
+        data = b"".join(text(r, r.choice([3, 3, 3, 15, 64, 65, 300])) + b"\n" for _ in range(20000))
+        code, out, err = from_file(data, words)
+        ok = err == b"read: Input/output error\n" and out == answered(data[: breaks * piece])
+        told(f"read {breaks + 1} fails, reads of {piece}", ok, code, err, len(out))
+
+
+def read_and_write_fail():
+    words = faulty("-DBREAKS=1", "-DPIECE=50")
+    if words:
+        with open("/dev/full", "wb") as full:
+            r = subprocess.run(words, input=b"18T\n" * 100, stdout=full, stderr=subprocess.PIPE)
+        told("a read fails, and then the write", r.stderr == b"read: Input/output error\nwrite: No space left on device\n", r.stderr)
+
+
+def reset():
+    """The input is a connection that the other side resets after it has sent some lines and the start of one."""
+    data = b"18T\n18TWL\n\n" * 20 + b"18T"
+    with socket.create_server(("127.0.0.1", 0)) as server:
+        near = socket.create_connection(server.getsockname())
+        far, _ = server.accept()
+        p = subprocess.Popen(command, stdin=near.fileno(), stdout=subprocess.PIPE, stderr=subprocess.PIPE)
+        far.sendall(data)
+        time.sleep(2)
+        far.setsockopt(socket.SOL_SOCKET, socket.SO_LINGER, struct.pack("ii", 1, 0))
+        far.close()
+        out, err = p.communicate(timeout=60)
+        near.close()
+    told("the connection is reset", out == answered(data) and err == b"read: Connection reset by peer\n", err, len(out))
+
+
+def memory():
+    """The most memory that the process has held when it has read all its input, the same for short and long inputs."""
+    peaks = []
+    for what, data in (("one line", b"18T\n"), ("8,000,000 lines", b"18T\n" * 8000000), ("one line of 64,000,000 bytes", b"7" * 64000000)):
+        p = subprocess.Popen(command, stdin=subprocess.PIPE, stdout=subprocess.DEVNULL)
+        p.stdin.write(data)
+        p.stdin.flush()
+        time.sleep(1)
+        peaks.append(int(re.search(r"VmHWM:\s*(\d+)", open(f"/proc/{p.pid}/status").read())[1]))
+        p.stdin.close()
+        p.wait()
+        print("memory:", what, peaks[-1], "KiB")
+    tally["memory"] = 1
+    if max(peaks) - min(peaks) > 512:
+        bad.append("memory")
+
+
 def failures():
-    """(name, standard error must have, standard output must be empty)"""
     some = b"line\n" * 50000
     with tempfile.TemporaryFile() as f:
         f.write(some)
@@ -197,30 +266,17 @@ def failures():
                 words["preexec_fn"] = lambda: [os.close(k) for k in shut]
             r = subprocess.run(command, stdin=None if stdin == "closed" else stdin, stdout=None if stdout == "closed" else stdout, stderr=subprocess.PIPE, timeout=60, **words)
             ok = r.stderr == says and not r.stdout and r.returncode == 0
-            tally["failures"] = tally.get("failures", 0) + 1
-            print("failure:", name, "->", r.returncode, r.stderr, "ok" if ok else "BAD")
-            if not ok:
-                bad.append(name)
+            told(name, ok, r.returncode, r.stderr)
         # small input: the only write is the last one
         r = subprocess.run(command, input=b"a\nb", stdout=open("/dev/full", "wb"), stderr=subprocess.PIPE)
-        tally["failures"] += 1
-        if r.stderr != b"write: No space left on device\n":
-            bad.append("small to /dev/full")
+        told("small to /dev/full", r.stderr == b"write: No space left on device\n", r.stderr)
         # empty input writes nothing, so a closed standard output does no harm
         r = subprocess.run(command, stdin=subprocess.DEVNULL, stderr=subprocess.PIPE, preexec_fn=lambda: os.close(1))
-        tally["failures"] += 1
-        if r.stderr or r.returncode:
-            bad.append("empty input, stdout closed")
-    # a read fails after three that did not: whole blocks of output, none after the failure
-    words = faulty("-DBREAKS=3")
-    if words:
-        data = b"18T\n" * 100000
-        code, out, err = from_file(data, words)
-        ok = err == b"read: Input/output error\n" and out and model(data).startswith(out) and len(out) < len(model(data))
-        tally["failures"] += 1
-        print("failure: the fourth read fails ->", code, err, len(out), "ok" if ok else "BAD")
-        if not ok:
-            bad.append("fourth read")
+        told("empty input, stdout closed", not r.stderr and not r.returncode, r.stderr)
+    for breaks, piece in ((0, 5000), (1, 5000), (1, 4), (1, 3), (2, 65471), (3, 40000), (9, 7), (30, 5000), (200, 4999)):
+        read_fails(breaks, piece)
+    read_and_write_fail()
+    reset()
     # the disk fills up in the middle: what came out is a start of the answer, and one reason
     with tempfile.TemporaryDirectory() as d:
         out = os.path.join(d, "out")
@@ -228,10 +284,7 @@ def failures():
             r = subprocess.run(command, input=some, stdout=g, stderr=subprocess.PIPE, preexec_fn=lambda: (signal.signal(signal.SIGXFSZ, signal.SIG_IGN), resource.setrlimit(resource.RLIMIT_FSIZE, (100000, 100000))))
         got = open(out, "rb").read()
         ok = r.stderr == b"write: File too large\n" and len(got) == 100000 and model(some).startswith(got)
-        tally["failures"] += 1
-        print("failure: file too large at 100,000 bytes ->", r.returncode, r.stderr, len(got), "ok" if ok else "BAD")
-        if not ok:
-            bad.append("file too large")
+        told("file too large at 100,000 bytes", ok, r.returncode, r.stderr, len(got))
 
 
 def main():
@@ -264,6 +317,7 @@ def main():
                 holds("faults", "faults, " + what, data, from_file(data, words))
         print("faults", tally["faults"], "cases,", len(bad), "bad,", round(time.time() - began), "s", flush=True)
     failures()
+    memory()
     print(sum(tally.values()), "cases", tally, len(bad), "bad", bad[:10], round(time.time() - began), "s")
     sys.exit(1 if bad else 0)
 
