@@ -6,8 +6,8 @@ use Prim.Native.Nat.{ℕ, zero, suc}
 use lib.ListN.{length, take, drop, length-append}
 use lib.Seq.{drop-append-add}
 use Rattle.whole.proofs.Parts.{clash}
-use Rattle.lines.specs.Lines.{glue, linesOf}
-use Rattle.lines.specs.inner.Steps.{ended, joined, lastOf}
+use Rattle.lines.specs.Lines.{glue, linesOf, ended}
+use Rattle.lines.specs.inner.Steps.{joined, lastOf}
 use Rattle.lines.proofs.Cuts.{free, free-cons, ended-line, ended-open, Cut, whole, line, cut}
 
 -- ---- texts with no LF
@@ -55,19 +55,21 @@ lines-open (b ∷ t) e = let x = free-cons b t e in rw (x .0, lines-open t (x .1
 size-line : (t u v : List ℕ) → drop (length (t ++ (10 ∷ v))) (t ++ (10 ∷ u)) ≡ drop (length v) u
 size-line t u v = rw (length-append t (10 ∷ v)) (drop-append-add t (10 ∷ u) (suc (length v)))
 
-advance-by : (k : ℕ) (p f : List ℕ) → Cut p
-    → ((q : List ℕ) → linesOf (q ++ f) ≡ take k (ended q) ++ linesOf (drop (length (joined (take k (ended q)))) q ++ f))
-    → linesOf (p ++ f) ≡ take (suc k) (ended p) ++ linesOf (drop (length (joined (take (suc k) (ended p)))) p ++ f)
-unfolding joined
-advance-by k p f (whole e) ih = rw (ended-open p e)
-advance-by k p f (line t u e q) ih =
-    rw (q, ended-line t u e, size-line t u (joined (take k (ended u))), append-assoc t (10 ∷ u) f, lines-line t (u ++ f) e)
-    (ap (λ (x : List (List ℕ)). t ∷ x) (ih u))
+-- by any way of parting a text that gives a line where one is ended
+module _ (lines : List ℕ → List (List ℕ)) (first : (t s : List ℕ) → free t ≡ true → lines (t ++ (10 ∷ s)) ≡ t ∷ lines s) where
+  advance-by : (k : ℕ) (p f : List ℕ) → Cut p
+      → ((q : List ℕ) → lines (q ++ f) ≡ take k (ended q) ++ lines (drop (length (joined (take k (ended q)))) q ++ f))
+      → lines (p ++ f) ≡ take (suc k) (ended p) ++ lines (drop (length (joined (take (suc k) (ended p)))) p ++ f)
+  unfolding joined
+  advance-by k p f (whole e) ih = rw (ended-open p e)
+  advance-by k p f (line t u e q) ih =
+      rw (q, ended-line t u e, size-line t u (joined (take k (ended u))), append-assoc t (10 ∷ u) f, first t (u ++ f) e)
+      (ap (λ (x : List (List ℕ)). t ∷ x) (ih u))
 
-pub advance : (k : ℕ) (p f : List ℕ) → linesOf (p ++ f) ≡ take k (ended p) ++ linesOf (drop (length (joined (take k (ended p)))) p ++ f)
-unfolding joined
-advance zero p f = refl
-advance (suc k) p f = advance-by k p f (cut p) (λ q. advance k q f)
+  pub advance : (k : ℕ) (p f : List ℕ) → lines (p ++ f) ≡ take k (ended p) ++ lines (drop (length (joined (take k (ended p)))) p ++ f)
+  unfolding joined
+  advance zero p f = refl
+  advance (suc k) p f = advance-by k p f (cut p) (λ q. advance k q f)
 
 left-by : (k : ℕ) (p : List ℕ) → Cut p → ((q : List ℕ) → ended (drop (length (joined (take k (ended q)))) q) ≡ drop k (ended q))
     → ended (drop (length (joined (take (suc k) (ended p)))) p) ≡ drop (suc k) (ended p)

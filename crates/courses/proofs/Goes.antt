@@ -1,4 +1,5 @@
--- What is listed, and then the listing of what is left, is the listing of the whole, whatever follows. Assumes nothing.
+-- What is listed, and then the listing of what is left, is the listing of the whole, whatever follows: of all lines, and of
+-- those alone that LF ends. Assumes nothing.
 use mathlib.Core.Path.{_≡_, refl, sym, ap, _∙_}
 use mathlib.Core.Bool.{Bool, true, false, cond}
 use mathlib.Core.List.{List, [], _∷_, _++_, append-assoc}
@@ -12,9 +13,9 @@ use Rattle.whole.proofs.Parts.{clash}
 use Rattle.reader.specs.declared.Answer.{Answer}
 use Rattle.listing.specs.Listing.{lineOf, answerOf}
 use Rattle.lines.specs.declared.Run.{Run}
-use Rattle.lines.specs.Lines.{glue, linesOf, numbered}
-use Rattle.lines.specs.inner.Steps.{top, nextOf, numberAfter, counted, ended, joined, lastOf, some, fit, answersOf, takenOf, numberPast, leftOf, readerOf, pendingOf, roomOf, stepText, stepSize, stepMore, restOf, keptOf, stepBuf, stepRun}
-use Rattle.lines.proofs.Cuts.{free, ended-open, Cut, whole, line, cut}
+use Rattle.lines.specs.Lines.{glue, linesOf, numbered, ended, onto}
+use Rattle.lines.specs.inner.Steps.{top, nextOf, numberAfter, counted, joined, lastOf, some, fit, answersOf, takenOf, numberPast, leftOf, readerOf, pendingOf, roomOf, stepText, stepSize, stepMore, restOf, keptOf, stepBuf, stepRun}
+use Rattle.lines.proofs.Cuts.{free, ended-line, ended-open, Cut, whole, line, cut}
 use Rattle.lines.proofs.Parts.{take-least, drop-least}
 use Rattle.courses.proofs.Cuts.{free-both, free-take, open-free, lines-line, lines-open, advance, left}
 
@@ -44,16 +45,6 @@ module _ (read : List ℕ → Answer) where
   counted-append n (l ∷ ls) ms =
       rw (counted-append (nextOf n) ls ms) (sym (append-assoc (lineOf read n l) (counted read (nextOf n) ls) (counted read (numberAfter (length ls) (nextOf n)) ms)))
 
-  pub goes : (room n : ℕ) (p f : List ℕ)
-      → counted read n (linesOf (p ++ f)) ≡ answersOf read room n (ended p) ++ counted read (numberPast read room n (ended p)) (linesOf (drop (takenOf read room n (ended p)) p ++ f))
-  unfolding answersOf numberPast takenOf
-  goes room n p f =
-      let k : ℕ = fit read room n (ended p) in
-      let ls : List (List ℕ) = take k (ended p) in
-      let ms : List (List ℕ) = linesOf (drop (length (joined ls)) p ++ f) in
-      let e : length ls ≡ k = length-take-le k (ended p) (fit-le room n (ended p)) in
-      ap (counted read n) (advance k p f) ∙ counted-append n ls ms ∙ ap (λ (m : ℕ). counted read n ls ++ counted read (numberAfter m n) ms) e
-
   -- all lines that end are listed
   pub all-listed : (room n : ℕ) (p : List ℕ) → leftOf read room n (ended p) ≡ false → ended (drop (takenOf read room n (ended p)) p) ≡ []
   unfolding leftOf takenOf
@@ -78,30 +69,63 @@ module _ (read : List ℕ → Answer) where
   last-cut n k [] f e = refl
   last-cut n k (b ∷ t) f e = ap (λ (x : List ℕ). x ++ []) e
 
-  cut-by : (n : ℕ) (t f : List ℕ) → free t ≡ true → Cut f → counted read n (linesOf (t ++ f)) ≡ counted read n (linesOf (take 65 t ++ f))
-  unfolding counted
-  cut-by n t f e (whole g) =
-      rw (lines-open (t ++ f) (free-both t f e g), lines-open (take 65 t ++ f) (free-both (take 65 t) f (free-take 65 t e) g))
-      (last-cut n 64 t f (long n t f))
-  cut-by n t f e (line u v g q) =
-      rw (
-        q,
-        ← append-assoc t u (10 ∷ v),
-        ← append-assoc (take 65 t) u (10 ∷ v),
-        lines-line (t ++ u) v (free-both t u e g),
-        lines-line (take 65 t ++ u) v (free-both (take 65 t) u (free-take 65 t e) g),
-      )
-      (rw (long n t u))
-
-  pub cut-off : (n : ℕ) (t f : List ℕ) → ended t ≡ [] → counted read n (linesOf (t ++ f)) ≡ counted read n (linesOf (take 65 t ++ f))
-  cut-off n t f e = cut-by n t f (open-free t e) (cut f)
-
   -- ---- plain numbers, as long as they fit
 
   pub plain : (n : ℕ) (ls : List (List ℕ)) → n + length ls ≤ top → counted read n ls ≡ numbered read n ls
   unfolding counted numbered nextOf
   plain n [] h = refl
   plain n (l ∷ ls) h = rw (lt-ltb n top (omega arith)) (ap (λ (x : List ℕ). lineOf read n l ++ x) (plain (n + 1) ls (omega arith)))
+
+-- ---- two ways to part a text into lines
+
+pub record Parts (lines : List ℕ → List (List ℕ)) : Type 0 where
+  pub first : (t s : List ℕ) → free t ≡ true → lines (t ++ (10 ∷ s)) ≡ t ∷ lines s
+  pub last : (read : List ℕ → Answer) (n : ℕ) (t f : List ℕ) → free t ≡ true → free f ≡ true → counted read n (lines (t ++ f)) ≡ counted read n (lines (take 65 t ++ f))
+
+-- all lines
+pub all-lines : Parts linesOf
+all-lines =
+    record {
+      first = lines-line;
+      last = λ read n t f e g.
+          rw (lines-open (t ++ f) (free-both t f e g), lines-open (take 65 t ++ f) (free-both (take 65 t) f (free-take 65 t e) g))
+          (last-cut read n 64 t f (long read n t f));
+    }
+
+-- those that LF ends
+pub ended-lines : Parts ended
+ended-lines =
+    record {
+      first = ended-line;
+      last = λ read n t f e g. rw (ended-open (t ++ f) (free-both t f e g), ended-open (take 65 t ++ f) (free-both (take 65 t) f (free-take 65 t e) g));
+    }
+
+module _ (read : List ℕ → Answer) (lines : List ℕ → List (List ℕ)) (w : Parts lines) where
+  pub goes : (room n : ℕ) (p f : List ℕ)
+      → counted read n (lines (p ++ f)) ≡ answersOf read room n (ended p) ++ counted read (numberPast read room n (ended p)) (lines (drop (takenOf read room n (ended p)) p ++ f))
+  unfolding answersOf numberPast takenOf
+  goes room n p f =
+      let k : ℕ = fit read room n (ended p) in
+      let ls : List (List ℕ) = take k (ended p) in
+      let ms : List (List ℕ) = lines (drop (length (joined ls)) p ++ f) in
+      let e : length ls ≡ k = length-take-le k (ended p) (fit-le read room n (ended p)) in
+      ap (counted read n) (advance lines (w .first) k p f) ∙ counted-append read n ls ms ∙ ap (λ (m : ℕ). counted read n ls ++ counted read (numberAfter m n) ms) e
+
+  cut-by : (n : ℕ) (t f : List ℕ) → free t ≡ true → Cut f → counted read n (lines (t ++ f)) ≡ counted read n (lines (take 65 t ++ f))
+  unfolding counted
+  cut-by n t f e (whole g) = w .last read n t f e g
+  cut-by n t f e (line u v g q) =
+      rw (
+        q,
+        ← append-assoc t u (10 ∷ v),
+        ← append-assoc (take 65 t) u (10 ∷ v),
+        w .first (t ++ u) v (free-both t u e g),
+        w .first (take 65 t ++ u) v (free-both (take 65 t) u (free-take 65 t e) g),
+      )
+      (rw (long read n t u))
+
+  pub cut-off : (n : ℕ) (t f : List ℕ) → ended t ≡ [] → counted read n (lines (t ++ f)) ≡ counted read n (lines (take 65 t ++ f))
+  cut-off n t f e = cut-by n t f (open-free t e) (cut f)
 
 -- ---- a step
 
@@ -126,20 +150,21 @@ module _ (buf out : List ℕ) (run : Run) where
   unfolding keptOf
   step-open e = rw (kept e) (ended-take 65 (restOf buf out run) (rest-open e))
 
-  step-by : (z : Bool) → stepMore buf out run ≡ z → (m : ℕ) (f : List ℕ)
-      → counted (readerOf run) m (linesOf (restOf buf out run ++ f)) ≡ counted (readerOf run) m (linesOf (pendingOf (stepBuf buf out run) (stepRun buf out run) ++ f))
-  unfolding keptOf
-  step-by true e m f = rw (stays e)
-  step-by false e m f = rw (kept e) (cut-off (readerOf run) m (restOf buf out run) f (rest-open e))
+  module _ (lines : List ℕ → List (List ℕ)) (w : Parts lines) where
+    step-by : (z : Bool) → stepMore buf out run ≡ z → (m : ℕ) (f : List ℕ)
+        → counted (readerOf run) m (lines (restOf buf out run ++ f)) ≡ counted (readerOf run) m (lines (pendingOf (stepBuf buf out run) (stepRun buf out run) ++ f))
+    unfolding keptOf
+    step-by true e m f = rw (stays e)
+    step-by false e m f = rw (kept e) (cut-off (readerOf run) lines w m (restOf buf out run) f (rest-open e))
 
-  step-at : (f : List ℕ)
-      → counted (readerOf run) (run .number) (linesOf (pendingOf buf run ++ f)) ≡ stepText buf out run ++ counted (readerOf run) (stepRun buf out run .number) (linesOf (restOf buf out run ++ f))
-  unfolding stepText restOf stepSize stepRun
-  step-at f = goes (readerOf run) (roomOf out run) (run .number) (pendingOf buf run) f
+    step-at : (f : List ℕ)
+        → counted (readerOf run) (run .number) (lines (pendingOf buf run ++ f)) ≡ stepText buf out run ++ counted (readerOf run) (stepRun buf out run .number) (lines (restOf buf out run ++ f))
+    unfolding stepText restOf stepSize stepRun
+    step-at f = goes (readerOf run) lines w (roomOf out run) (run .number) (pendingOf buf run) f
 
-  pub step-goes : (f : List ℕ) → counted (readerOf run) (run .number) (linesOf (pendingOf buf run ++ f))
-      ≡ stepText buf out run ++ counted (readerOf run) (stepRun buf out run .number) (linesOf (pendingOf (stepBuf buf out run) (stepRun buf out run) ++ f))
-  step-goes f = step-at f ∙ ap (λ (x : List ℕ). stepText buf out run ++ x) (step-by (stepMore buf out run) refl (stepRun buf out run .number) f)
+    pub step-goes : (f : List ℕ) → counted (readerOf run) (run .number) (lines (pendingOf buf run ++ f))
+        ≡ stepText buf out run ++ counted (readerOf run) (stepRun buf out run .number) (lines (pendingOf (stepBuf buf out run) (stepRun buf out run) ++ f))
+    step-goes f = step-at f ∙ ap (λ (x : List ℕ). stepText buf out run ++ x) (step-by (stepMore buf out run) refl (stepRun buf out run .number) f)
 
 -- ---- there are no more lines than bytes
 
@@ -156,3 +181,17 @@ pub lines-le : (s : List ℕ) → length (linesOf s) ≤ length s
 unfolding linesOf
 lines-le [] = omega arith
 lines-le (b ∷ s) = lines-by b (eqb b 10) (linesOf s) (length s) (lines-le s)
+
+onto-le : (b : ℕ) (ls : List (List ℕ)) → length (onto b ls) ≤ length ls
+unfolding onto
+onto-le b [] = omega arith
+onto-le b (l ∷ ls) = omega arith
+
+ended-by : (b : ℕ) (z : Bool) (ls : List (List ℕ)) (k : ℕ) → length ls ≤ k → length (cond z ([] ∷ ls) (onto b ls)) ≤ suc k
+ended-by b true ls k h = omega arith
+ended-by b false ls k h = omega (arith, onto-le b ls)
+
+pub ended-le : (s : List ℕ) → length (ended s) ≤ length s
+unfolding ended
+ended-le [] = omega arith
+ended-le (b ∷ s) = ended-by b (eqb b 10) (ended s) (length s) (ended-le s)

@@ -1,20 +1,20 @@
 -- A program whose functions keep to their contracts goes by a course, and ends with the listing. Assumes nothing.
 use mathlib.Core.Path.{_≡_, refl, sym, ap, _∙_}
-use mathlib.Core.Bool.{Bool, true, false, cond}
+use mathlib.Core.Bool.{false}
 use mathlib.Core.List.{List}
-use Prim.Native.Nat.{ℕ, _+_, _-_, _≤_, _<_}
+use Prim.Native.Nat.{ℕ, _-_, _≤_, _<_}
 use native.Mathlib.Omega.{arith}
 use borrow.Author.Tests.{eq-eqb}
 use lib.ListN.{length, take, drop, length-drop}
 use lib.Seq.{length-take-le}
 use Rattle.listing.specs.declared.Form.{Form}
 use Rattle.lines.specs.declared.Run.{Run}
-use Rattle.lines.specs.Lines.{listingOf}
+use Rattle.lines.specs.Lines.{numbered, listingOf, ended}
 use Rattle.lines.specs.inner.Steps.{top, readerOf, lastOf, roomOf, pendingOf, lastText, lastOut, lastRun, startRun, stepRun, stepBuf, stepOut, finishRun, finishOut, receivedRun, writtenRun}
-use Rattle.courses.specs.Courses.{State, Course, begins, steps, writes, Ending, finishes, writes-on}
-use Rattle.courses.specs.inner.Programs.{Reached, Closed, Delivered, Sent, none, one, Waits}
+use Rattle.courses.specs.Courses.{begins, steps, writes, Ending, finishes, writes-on}
+use Rattle.courses.specs.inner.Programs.{Reached, Answered, Closed, Delivered, Sent, none, one, Waits}
 use Rattle.courses.proofs.Stands.{Stands, course-stands, put-within, text-le, sent-bound}
-use Rattle.courses.proofs.Whole.{read-block, whole-listing, ends, finish-run, finish-out}
+use Rattle.courses.proofs.Whole.{read-block, whole-listing, answered-listing, ends, finish-run, finish-out}
 
 -- what a reached state keeps to
 pub stands : {buf out : List ℕ} {run : Run} (r : Reached buf out run) → Stands (record { input = r .input; output = r .output; buf = buf; out = out; run = run })
@@ -64,6 +64,10 @@ none-more size n run r e z = rw (e, eq-eqb n 0 z)
 pub written-waits : (out : List ℕ) (run r : Run) (n : ℕ) → Waits out run → r ≡ writtenRun run n → Waits out r
 written-waits out run r n h e = let b = sent-bound out run n (h .used) in rw e (record { sent = b .0; used = b .1 })
 
+-- what was answered, once it is written
+pub answers : (buf out : List ℕ) (run r : Run) → Reached buf out run → run .more ≡ false → Sent run r → r .used ≡ 0 → Answered buf out r
+answers buf out run r h m s z = record { reached = sent-reached buf out run r h s; still = sent-more run r s ∙ m; none = z }
+
 -- ---- the end
 
 module _ (buf out : List ℕ) (run : Run) (w : Waits out run) where
@@ -100,3 +104,8 @@ closes buf out run out′ r q h m room free e s z =
 -- THE CLAIM, for a program: what it has written when it is closed is the listing of what it has read.
 pub closed-listing : {buf out : List ℕ} {run : Run} (c : Closed buf out run) → length (c .input) < top → c .output ≡ listingOf (readerOf run) (c .input)
 closed-listing c n = whole-listing (c .ending) (omega (arith, c .none)) n
+
+-- And where a read failed, the listing of the lines that had ended.
+pub answered-lines : {buf out : List ℕ} {run : Run} (a : Answered buf out run) → length (a .reached .input) < top
+    → a .reached .output ≡ numbered (readerOf run) 1 (ended (a .reached .input))
+answered-lines a n = answered-listing (a .reached .course) (a .still) (omega (arith, a .none)) n

@@ -11,8 +11,8 @@ use lib.Seq.{length-take-le}
 use Rattle.listing.specs.declared.Form.{Form}
 use Rattle.listing.specs.Listing.{readBy}
 use Rattle.lines.specs.declared.Run.{Run}
-use Rattle.lines.specs.Lines.{listingOf}
-use Rattle.lines.specs.inner.Steps.{top, ended, wrote, readerOf, pendingOf, roomOf, stepText, stepSize, stepMore, stepOut, stepRun, lastRun, finishRun, startRun, receivedRun, writtenRun}
+use Rattle.lines.specs.Lines.{listingOf, ended}
+use Rattle.lines.specs.inner.Steps.{top, wrote, readerOf, pendingOf, roomOf, stepText, stepSize, stepOut, stepRun, lastRun, finishRun, startRun, receivedRun, writtenRun}
 use Rattle.lines.proofs.Steps.{length-wrote}
 use Rattle.lines.proofs.Runs.{size-le}
 use Rattle.courses.specs.Courses.{State, atStart, given, stepped, emptied, finished, Course, begins, reads, steps, writes, finishes, writes-on, drained, taken, served, outputOf, joint}

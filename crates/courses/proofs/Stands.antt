@@ -1,26 +1,26 @@
 -- What every course keeps to: what is written and what waits to be written, with the listing of what waits to be listed, is
--- the listing of what was read, whatever follows it. Assumes nothing.
+-- the listing of what was read, whatever follows it, of all lines and of those alone that LF ends. Assumes nothing.
 use mathlib.Core.Path.{_≡_, refl, sym, ap, _∙_}
-use mathlib.Core.Bool.{Bool, true, false, cond}
+use mathlib.Core.Bool.{Bool, true, false}
 use mathlib.Core.List.{List, [], _∷_, _++_, append-assoc, append-nil}
-use Prim.Native.Nat.{ℕ, _+_, _-_, _≤_, _<_, min}
+use Prim.Native.Nat.{ℕ, _+_, _-_, _≤_, min}
 use native.Mathlib.Omega.{arith}
 use native.Mathlib.Nat.{add-zero}
 use borrow.Author.Tests.{ltb-true, ltb-false, ne-eqb}
 use lib.Dec.{ltb}
 use lib.ListN.{length, take, drop, length-append, length-take, length-drop, take-append-drop}
-use lib.Seq.{drop-append-le, take-append-add, take-append-seam, take-add, take-all, length-take-le, drop-drop}
+use lib.Seq.{drop-append-le, take-append-add, take-append-seam, take-all, length-take-le, drop-drop}
 use Rattle.whole.proofs.Parts.{clash}
 use Rattle.reader.specs.declared.Answer.{Answer}
 use Rattle.listing.specs.declared.Form.{Form}
 use Rattle.listing.specs.Listing.{lineOf}
 use Rattle.lines.specs.declared.Run.{Run}
-use Rattle.lines.specs.Lines.{linesOf}
-use Rattle.lines.specs.inner.Steps.{nextOf, counted, ended, lastOf, fit, answersOf, takenOf, wrote, readerOf, pendingOf, waitingOf, roomOf, stepText, stepSize, stepMore, keptOf, stepBuf, stepOut, stepRun, startRun, receivedRun, writtenRun}
+use Rattle.lines.specs.Lines.{ended}
+use Rattle.lines.specs.inner.Steps.{nextOf, counted, answersOf, wrote, readerOf, pendingOf, waitingOf, roomOf, stepText, stepSize, stepMore, keptOf, stepBuf, stepOut, stepRun, startRun, receivedRun, writtenRun}
 use Rattle.lines.proofs.Steps.{text-room, text-full, text-none}
 use Rattle.lines.proofs.Runs.{size-le}
 use Rattle.courses.specs.Courses.{State, atStart, given, stepped, written, Course, begins, reads, steps, writes}
-use Rattle.courses.proofs.Goes.{step-goes, step-open}
+use Rattle.courses.proofs.Goes.{Parts, step-goes, step-open}
 
 pub record Stands (s : State) : Type 0 where
   pub low : s .run .from ≤ s .run .end
@@ -29,9 +29,9 @@ pub record Stands (s : State) : Type 0 where
   pub used : s .run .used ≤ length (s .out)
   pub short : s .run .more ≡ false → s .run .end ≤ 65
   pub done : s .run .more ≡ false → ended (pendingOf (s .buf) (s .run)) ≡ []
-  pub is : (f : List ℕ)
-      → (s .output ++ waitingOf (s .out) (s .run)) ++ counted (readerOf (s .run)) (s .run .number) (linesOf (pendingOf (s .buf) (s .run) ++ f))
-      ≡ counted (readerOf (s .run)) 1 (linesOf (s .input ++ f))
+  pub is : (lines : List ℕ → List (List ℕ)) → Parts lines → (f : List ℕ)
+      → (s .output ++ waitingOf (s .out) (s .run)) ++ counted (readerOf (s .run)) (s .run .number) (lines (pendingOf (s .buf) (s .run) ++ f))
+      ≡ counted (readerOf (s .run)) 1 (lines (s .input ++ f))
 
 begun-stands : (form : Form) (buf out : List ℕ) → Stands (atStart form buf out)
 unfolding startRun pendingOf waitingOf ended
@@ -43,7 +43,7 @@ begun-stands form buf out =
       used = omega arith;
       short = λ e. omega arith;
       done = λ e. refl;
-      is = λ f. refl;
+      is = λ lines w f. refl;
     }
 
 -- ---- a text that is put behind what waits waits too
@@ -162,7 +162,7 @@ module _ (s : State) (h : Stands s) where
         used = h .used;
         short = h .short;
         done = λ m. rw e (h .done m);
-        is = λ f. rw (e, append-nil (s .input)) (h .is f);
+        is = λ lines w f. rw (e, append-nil (s .input)) (h .is lines w f);
       }
 
   -- and one that brings a block
@@ -192,7 +192,7 @@ module _ (s : State) (h : Stands s) where
           used = h .used;
           short = λ m. clash (cc);
           done = λ m. clash (cc);
-          is = λ f. rw (x, append-assoc (drop (s .run .from) (take (s .run .end) (s .buf))) b f, append-assoc (s .input) b f) (h .is (b ++ f));
+          is = λ lines w f. rw (x, append-assoc (drop (s .run .from) (take (s .run .end) (s .buf))) b f, append-assoc (s .input) b f) (h .is lines w (b ++ f));
         })
 
   pub given-stands : (b buf : List ℕ) → take (s .run .end + length b) buf ≡ take (s .run .end) (s .buf) ++ b → Stands (given s b buf)
@@ -200,10 +200,10 @@ module _ (s : State) (h : Stands s) where
   given-stands (a ∷ b) buf e = some-stands (a ∷ b) buf e (λ z. omega arith)
 
   kept-by : (n : ℕ) → (writtenRun (s .run) n .sent ≤ writtenRun (s .run) n .used) × (writtenRun (s .run) n .used ≤ length (s .out))
-      → ((f : List ℕ)
+      → ((lines : List ℕ → List (List ℕ)) → Parts lines → (f : List ℕ)
       → ((s .output ++ take n (waitingOf (s .out) (s .run))) ++ waitingOf (s .out) (writtenRun (s .run) n))
-      ++ counted (readerOf (s .run)) (s .run .number) (linesOf (pendingOf (s .buf) (s .run) ++ f))
-      ≡ counted (readerOf (s .run)) 1 (linesOf (s .input ++ f)))
+      ++ counted (readerOf (s .run)) (s .run .number) (lines (pendingOf (s .buf) (s .run) ++ f))
+      ≡ counted (readerOf (s .run)) 1 (lines (s .input ++ f)))
       → Stands (written s n)
   unfolding writtenRun pendingOf
   kept-by n b is = record { low = h .low; inside = h .inside; sent = b .0; used = b .1; short = h .short; done = h .done; is = is }
@@ -214,7 +214,7 @@ module _ (s : State) (h : Stands s) where
       let v : List ℕ = waitingOf (s .out) (writtenRun (s .run) n) in
       let x : (s .output ++ take n w) ++ v ≡ s .output ++ w = append-assoc (s .output) (take n w) v ∙ ap (λ (y : List ℕ). s .output ++ y) (sent-waits (s .out) (s .run) n) in
       let b = sent-bound (s .out) (s .run) n (h .used) in
-      kept-by n b (λ f. ap (λ (y : List ℕ). y ++ counted (readerOf (s .run)) (s .run .number) (linesOf (pendingOf (s .buf) (s .run) ++ f))) x ∙ h .is f)
+      kept-by n b (λ lines p f. ap (λ (y : List ℕ). y ++ counted (readerOf (s .run)) (s .run .number) (lines (pendingOf (s .buf) (s .run) ++ f))) x ∙ h .is lines p f)
 
   pub stepped-stands : Stands (stepped s)
   stepped-stands =
@@ -228,15 +228,15 @@ module _ (s : State) (h : Stands s) where
         used = step-used buf out run;
         short = short-by buf out run (stepMore buf out run) refl;
         done = λ e. step-open buf out run (sym (more-is buf out run) ∙ e);
-        is = λ f.
+        is = λ lines w f.
             rw (
               same-form buf out run,
               step-waits buf out run (h .sent) (h .used),
               ← append-assoc (s .output) (waitingOf out run) (stepText buf out run),
-              append-assoc (s .output ++ waitingOf out run) (stepText buf out run) (counted (readerOf run) (stepRun buf out run .number) (linesOf (pendingOf (stepBuf buf out run) (stepRun buf out run) ++ f))),
-              ← step-goes buf out run f,
+              append-assoc (s .output ++ waitingOf out run) (stepText buf out run) (counted (readerOf run) (stepRun buf out run .number) (lines (pendingOf (stepBuf buf out run) (stepRun buf out run) ++ f))),
+              ← step-goes buf out run lines w f,
             )
-            (h .is f);
+            (h .is lines w f);
       }
 
 pub course-stands : {s : State} → Course s → Stands s

@@ -11,12 +11,12 @@ use Rattle.reader.specs.declared.Answer.{Answer}
 use Rattle.listing.specs.Listing.{lineOf}
 use Rattle.listing.proofs.Fit.{line-le}
 use Rattle.lines.specs.declared.Run.{Run}
-use Rattle.lines.specs.Lines.{linesOf, listingOf}
-use Rattle.lines.specs.inner.Steps.{top, nextOf, counted, ended, lastOf, fit, answersOf, takenOf, leftOf, readerOf, pendingOf, waitingOf, roomOf, stepSize, stepMore, stepRun, lastText, lastMore, lastOut, lastRun, finishOut, finishRun, writtenRun}
+use Rattle.lines.specs.Lines.{linesOf, listingOf, ended, numbered}
+use Rattle.lines.specs.inner.Steps.{top, nextOf, counted, lastOf, fit, answersOf, takenOf, leftOf, readerOf, pendingOf, waitingOf, roomOf, stepSize, stepMore, stepRun, lastText, lastMore, lastOut, lastRun, finishOut, finishRun, writtenRun}
 use Rattle.lines.proofs.Steps.{size-room, more-room, more-none}
 use Rattle.courses.specs.Courses.{State, given, written, finished, Course, reads, Ending, finishes, writes-on}
 use Rattle.courses.proofs.Cuts.{open-free, lines-open}
-use Rattle.courses.proofs.Goes.{plain, lines-le, none-by}
+use Rattle.courses.proofs.Goes.{plain, lines-le, ended-le, none-by, all-lines, ended-lines}
 use Rattle.courses.proofs.Stands.{course-stands, put-waits, sent-waits}
 
 -- What a read has to leave: the front of the buffer as it was. The block is what then stands behind it.
@@ -82,7 +82,7 @@ finish-closes {s} c l =
     let r : finishRun buf out run ≡ lastRun buf out run = finish-run buf out run m in
     let t : lastText buf out run ≡ counted (readerOf run) (run .number) (linesOf p) = last-goes buf out run (h .done m) (sym (ap (λ (x : Run). x .more) r) ∙ l) in
     let x : (s .output ++ waitingOf out run) ++ counted (readerOf run) (run .number) (linesOf p) ≡ counted (readerOf run) 1 (linesOf (s .input)) =
-    ap (λ (q : List ℕ). (s .output ++ waitingOf out run) ++ counted (readerOf run) (run .number) (linesOf q)) (sym (append-nil p)) ∙ h .is []
+    ap (λ (q : List ℕ). (s .output ++ waitingOf out run) ++ counted (readerOf run) (run .number) (linesOf q)) (sym (append-nil p)) ∙ h .is linesOf all-lines []
     ∙ ap (λ (q : List ℕ). counted (readerOf run) 1 (linesOf q)) (append-nil (s .input)) in
     rw (r, finish-out buf out run m, last-form buf out run, last-waits buf out run (h .sent) (h .used), t, ← append-assoc (s .output) (waitingOf out run) (counted (readerOf run) (run .number) (linesOf p))) x
 
@@ -110,6 +110,21 @@ whole-counted {s} e h = sym (append-nil (s .output)) ∙ ap (λ (x : List ℕ). 
 pub whole-listing : {s : State} → Ending s → s .run .used ≤ s .run .sent → length (s .input) < top → s .output ≡ listingOf (readerOf (s .run)) (s .input)
 unfolding listingOf
 whole-listing {s} e h n = whole-counted e h ∙ plain (readerOf (s .run)) 1 (linesOf (s .input)) (omega (arith, lines-le (s .input)))
+
+-- ---- the input breaks off
+
+-- What is written when no line is left and nothing waits is the listing of the lines that had ended.
+pub answered-listing : {s : State} → Course s → s .run .more ≡ false → s .run .used ≤ s .run .sent → length (s .input) < top
+    → s .output ≡ numbered (readerOf (s .run)) 1 (ended (s .input))
+unfolding counted
+answered-listing {s} c m h n =
+    let run : Run = s .run in
+    let k = course-stands c in
+    let x : (s .output ++ waitingOf (s .out) run) ++ counted (readerOf run) (run .number) (ended (pendingOf (s .buf) run ++ [])) ≡ counted (readerOf run) 1 (ended (s .input ++ [])) =
+    k .is ended ended-lines [] in
+    let y : s .output ≡ counted (readerOf run) 1 (ended (s .input)) =
+    rw (none-waits (s .out) run h, append-nil (pendingOf (s .buf) run), k .done m, append-nil (s .output), append-nil (s .output), append-nil (s .input)) at x in
+    y ∙ plain (readerOf run) 1 (ended (s .input)) (omega (arith, ended-le (s .input)))
 
 -- ---- with room for one line there is no standing still
 

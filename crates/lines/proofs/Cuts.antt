@@ -10,7 +10,8 @@ use lib.ListN.{length, take, drop, length-append}
 use lib.Seq.{take-append-seam, drop-append-add}
 use Rattle.bytes.specs.Bytes.{indexOf, indexAfter}
 use Rattle.whole.proofs.Parts.{clash}
-use Rattle.lines.specs.inner.Steps.{onto, ended, joined}
+use Rattle.lines.specs.Lines.{onto, ended}
+use Rattle.lines.specs.inner.Steps.{joined}
 
 -- no LF stands in a text
 unfoldable pub free : List ℕ → Bool

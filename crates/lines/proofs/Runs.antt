@@ -7,12 +7,13 @@ use native.Mathlib.Nat.{add-zero}
 use native.Mathlib.Omega.{arith}
 use borrow.Author.Tests.{lt-ltb, le-ltb, ltb-true, ltb-false, eq-eqb, ne-eqb}
 use lib.Dec.{ltb}
-use lib.ListN.{length, take, drop, length-append, length-take, length-drop}
+use lib.ListN.{length, take, drop, length-take, length-drop}
 use lib.Seq.{drop-drop}
 use Rattle.reader.specs.declared.Answer.{Answer}
 use Rattle.listing.specs.Listing.{lineOf}
 use Rattle.lines.specs.declared.Run.{Run}
-use Rattle.lines.specs.inner.Steps.{nextOf, ended, lastOf, fit, answersOf, takenOf, numberPast, leftOf, fitting, wrote, PutAt, ListedAt, readerOf, pendingOf, roomOf, stepText, stepSize, stepMore, restOf, keptOf, stepOut, stepBuf, stepRun, lastText, lastMore, lastOut, lastRun, finishOut, finishRun, receivedRun, writtenRun}
+use Rattle.lines.specs.Lines.{ended}
+use Rattle.lines.specs.inner.Steps.{nextOf, lastOf, fit, answersOf, takenOf, numberPast, leftOf, fitting, wrote, PutAt, ListedAt, readerOf, pendingOf, roomOf, stepText, stepSize, stepMore, restOf, keptOf, stepOut, stepBuf, stepRun, lastText, lastMore, lastOut, lastRun, finishOut, finishRun, receivedRun, writtenRun}
 use Rattle.lines.proofs.Cuts.{size-within}
 use Rattle.lines.proofs.Steps.{text-room, number-room, more-room, text-full, number-full, more-full, text-none, number-none, more-none, wrote-none, fitting-room, fitting-full}
 use Rattle.lines.proofs.Parts.{part, take-min, take-least, drop-least, wrote-least}

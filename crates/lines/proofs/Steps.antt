@@ -2,14 +2,14 @@
 use mathlib.Core.Path.{_≡_, refl, sym, ap, _∙_}
 use mathlib.Core.Bool.{Bool, true, false, cond}
 use mathlib.Core.List.{List, [], _∷_, _++_, append-assoc, append-nil}
-use Prim.Native.Nat.{ℕ, zero, suc, _+_, _-_, _≤_, _<_, min}
-use native.Mathlib.Nat.{add-zero, zero-add, zero-min, min-zero, suc-min-suc}
+use Prim.Native.Nat.{ℕ, zero, suc, _+_, _-_, _≤_, _<_}
+use native.Mathlib.Nat.{add-zero, zero-add}
 use native.Mathlib.Numerals.{add-one}
 use native.Mathlib.Omega.{arith}
 use borrow.Author.Tests.{lt-ltb, le-ltb, ltb-true, ltb-false}
 use lib.Dec.{ltb}
 use lib.ListN.{length, take, drop, getD, set, length-set, length-append, length-take, length-drop, take-append-drop, drop-of-length-le}
-use lib.Seq.{drop-cons, take-suc, set-at, append-snoc, getD-append-add, getD-drop, take-all, take-at, drop-at, drop-drop, take-append-add, drop-append-add, length-take-le, take-length}
+use lib.Seq.{drop-cons, take-suc, set-at, append-snoc, getD-append-add, getD-drop, take-all, take-at, drop-at, drop-drop, length-take-le, take-length}
 use Rattle.bytes.specs.Bytes.{indexOf, slice}
 use Rattle.reader.specs.declared.Answer.{Answer}
 use Rattle.listing.specs.Listing.{lineOf}
@@ -17,7 +17,8 @@ use Rattle.whole.proofs.Parts.{clash}
 use Rattle.writer.specs.declared.Written.the-variants.{Length, Refused}
 use Rattle.writer.specs.Write.{fitOf, leavesOf}
 use Rattle.writer.proofs.Fit.{fitted, held, untouched}
-use Rattle.lines.specs.inner.Steps.{nextOf, numberAfter, counted, ended, joined, some, fit, answersOf, takenOf, numberPast, leftOf, fitting, wrote, PutAt, ListedAt}
+use Rattle.lines.specs.Lines.{ended}
+use Rattle.lines.specs.inner.Steps.{nextOf, numberAfter, counted, joined, some, fit, answersOf, takenOf, numberPast, leftOf, fitting, wrote, PutAt, ListedAt}
 use Rattle.lines.proofs.Cuts.{first-line, no-line}
 
 -- ---- buffers

@@ -25,3 +25,12 @@ numbered read n (l ∷ ls) = lineOf read n l ++ numbered read (n + 1) ls
 -- "line number": the first line is 1.
 unfoldable pub listingOf : (List ℕ → Answer) → List ℕ → List ℕ
 listingOf read s = numbered read 1 (linesOf s)
+
+-- Where the input breaks off, the lines that LF had ended.
+unfoldable pub onto : ℕ → List (List ℕ) → List (List ℕ)
+onto b [] = []
+onto b (l ∷ ls) = (b ∷ l) ∷ ls
+
+unfoldable pub ended : List ℕ → List (List ℕ)
+ended [] = []
+ended (b ∷ s) = cond (eqb b 10) ([] ∷ ended s) (onto b (ended s))

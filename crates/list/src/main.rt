@@ -6,19 +6,19 @@ use lines::Run;
 use listing::Form;
 ghost use mathlib.Core.Bool.{false};
 ghost use mathlib.Core.Path.{_≡_};
-ghost use Prim.Native.Nat.{_<_, _≤_};
-ghost use lib.IntN.{pos};
+ghost use Prim.Native.Nat.{ℕ, _<_, _≤_};
 ghost use lib.ListN.{length};
-ghost use Rattle.courses.specs.inner.Programs.{Reached, Closed, Delivered, Sent, Waits};
+ghost use Rattle.io.specs.Counts.{clamped};
+ghost use Rattle.courses.specs.inner.Programs.{Reached, Answered, Closed, Delivered, Sent, Waits};
 
-// How the program stands: it goes on; the input has ended; a read failed; a write failed.
+// How the program stands: it goes on; a write failed; the input has ended; a read failed.
 const GOING: u8 = 0;
 
-const ENDED: u8 = 1;
+const UNWRITTEN: u8 = 1;
 
-const UNREAD: u8 = 2;
+const ENDED: u8 = 2;
 
-const UNWRITTEN: u8 = 3;
+const UNREAD: u8 = 3;
 
 struct Place {
     run: Run,
@@ -27,7 +27,7 @@ struct Place {
 
 // After a read that answered `got`. One that a signal interrupted brought nothing, and the next may bring more.
 fn after_read(got: isize) -> u8
-    ensures { λ r. ⌜ (r ≡ 1 → got ≡ pos 0) ⌝ }
+    ensures { λ r. ⌜ (2 ≤ r → (n : ℕ) → clamped got n ≡ 0) ⌝ }
 {
     if got == 0 {
         return ENDED;
@@ -44,7 +44,7 @@ fn after_read(got: isize) -> u8
 // One read, behind the bytes that wait. There is room, so that an empty read means the end.
 fn fill(buf: &mut [u8], run: Run) -> Place
     requires { ⌜ run .end < length (now buf) ⌝ }
-    ensures { λ r. ⌜ Delivered (now (buf .entry)) (now (buf .exit)) run (r .run) × (r .how ≡ 1 → r .run .more ≡ run .more) ⌝ }
+    ensures { λ r. ⌜ Delivered (now (buf .entry)) (now (buf .exit)) run (r .run) × (2 ≤ r .how → r .run .more ≡ run .more) ⌝ }
 {
     let at = run.end;
     let got = libc::read(STDIN_FILENO, &mut buf[at..]);
@@ -56,7 +56,7 @@ fn fill(buf: &mut [u8], run: Run) -> Place
 
 // After a write of some bytes that answered `got`. One that a signal interrupted took none, and the next may take them.
 fn after_write(got: isize) -> u8
-    ensures { λ r. ⌜ (r ≡ 1 → ⊥) ⌝ }
+    ensures { λ r. ⌜ r ≤ 1 ⌝ }
 {
     if 0 < got {
         return GOING;
@@ -73,7 +73,7 @@ fn after_write(got: isize) -> u8
 // One write, of the bytes that wait.
 fn send(out: &[u8], run: Run) -> Place
     requires { ⌜ Waits (now out) run ⌝ }
-    ensures { λ r. ⌜ Sent run (r .run) × Waits (now (out .entry)) (r .run) × (r .how ≡ 1 → ⊥) ⌝ }
+    ensures { λ r. ⌜ Sent run (r .run) × Waits (now (out .entry)) (r .run) × (r .how ≤ 1) ⌝ }
 {
     let from = run.sent;
     let to = run.used;
@@ -88,7 +88,7 @@ fn send(out: &[u8], run: Run) -> Place
 // do: this one and that of `read_all` count down from a number that no run uses up.
 fn send_all(out: &[u8], run: Run) -> Place
     requires { ⌜ Waits (now out) run ⌝ }
-    ensures { λ r. ⌜ Sent run (r .run) × Waits (now (out .entry)) (r .run) × (r .how ≡ 1 → ⊥) × (r .how ≡ 0 → r .run .used ≡ 0) ⌝ }
+    ensures { λ r. ⌜ Sent run (r .run) × Waits (now (out .entry)) (r .run) × (r .how ≤ 1) × (r .how ≡ 0 → r .run .used ≡ 0) ⌝ }
 {
     let mut place = Place { run, how: GOING };
     let mut turns = u64::MAX;
@@ -113,7 +113,7 @@ fn send_all(out: &[u8], run: Run) -> Place
 // Lists what waits. Where the output is full, it is written.
 fn list(buf: &mut [u8], out: &mut [u8], run: Run) -> Place
     requires { ⌜ Reached (now buf) (now out) run ⌝ }
-    ensures { λ r. ⌜ Reached (now (buf .exit)) (now (out .exit)) (r .run) × (r .how ≡ 1 → ⊥) ⌝ }
+    ensures { λ r. ⌜ Reached (now (buf .exit)) (now (out .exit)) (r .run) × (r .how ≤ 1) ⌝ }
 {
     let next = lines::step(buf, out, run);
     if next.more {
@@ -129,7 +129,7 @@ fn list(buf: &mut [u8], out: &mut [u8], run: Run) -> Place
 fn turn(buf: &mut [u8], out: &mut [u8], run: Run) -> Place
     requires { ⌜ 65 < length (now buf) ⌝ }
     requires { ⌜ Reached (now buf) (now out) run ⌝ }
-    ensures { λ r. ⌜ Reached (now (buf .exit)) (now (out .exit)) (r .run) × (r .how ≡ 1 → r .run .more ≡ false) ⌝ }
+    ensures { λ r. ⌜ Reached (now (buf .exit)) (now (out .exit)) (r .run) × (2 ≤ r .how → r .run .more ≡ false) ⌝ }
 {
     if run.more {
         return list(buf, out, run);
@@ -140,7 +140,7 @@ fn turn(buf: &mut [u8], out: &mut [u8], run: Run) -> Place
 // All turns, until the input ends or a read or a write fails.
 fn read_all(buf: &mut [u8], out: &mut [u8]) -> Place
     requires { ⌜ 65 < length (now buf) ⌝ }
-    ensures { λ r. ⌜ Reached (now (buf .exit)) (now (out .exit)) (r .run) × (r .how ≡ 1 → r .run .more ≡ false) ⌝ }
+    ensures { λ r. ⌜ Reached (now (buf .exit)) (now (out .exit)) (r .run) × (2 ≤ r .how → r .run .more ≡ false) ⌝ }
 {
     let run = lines::start(Form::Plain);
     let mut place = Place { run, how: GOING };
@@ -156,11 +156,23 @@ fn read_all(buf: &mut [u8], out: &mut [u8]) -> Place
     place
 }
 
+// All that waits was written, for the reason that is told; or a write failed.
+fn because(sent: Place, how: u8) -> Place
+    requires { ⌜ sent .how ≤ 1 ⌝ }
+    ensures { λ r. ⌜ (r .run ≡ sent .run) × (2 ≤ r .how → (r .how ≡ how) × (sent .how ≡ 0)) ⌝ }
+{
+    if sent.how != GOING {
+        return sent;
+    }
+    let run = sent.run;
+    Place { run, how }
+}
+
 // After the end of the input: what waits, and the last line where there is one.
 fn close(buf: &[u8], out: &mut [u8], run: Run) -> Place
     requires { ⌜ (128 ≤ length (now out)) × (run .more ≡ false) ⌝ }
     requires { ⌜ Reached (now buf) (now out) run ⌝ }
-    ensures { λ r. ⌜ (r .how ≡ 0 → Closed (now (buf .entry)) (now (out .exit)) (r .run)) ⌝ }
+    ensures { λ r. ⌜ (2 ≤ r .how → (r .how ≡ 2) × Closed (now (buf .entry)) (now (out .exit)) (r .run)) ⌝ }
 {
     let freed = send_all(out, run);
     if freed.how != GOING {
@@ -168,22 +180,30 @@ fn close(buf: &[u8], out: &mut [u8], run: Run) -> Place
     }
     let before = freed.run;
     let last = lines::finish(buf, out, before);
-    send_all(out, last)
+    because(send_all(out, last), ENDED)
 }
 
-// Where a read failed, what is answered is written all the same; where a write failed, nothing more is.
+// The whole run. Where a read failed, what is answered is written all the same; where a write failed, nothing more is.
+fn list_all(buf: &mut [u8], out: &mut [u8]) -> Place
+    requires { ⌜ (65 < length (now buf)) × (128 ≤ length (now out)) ⌝ }
+    ensures { λ r. ⌜ (r .how ≡ 2 → Closed (now (buf .exit)) (now (out .exit)) (r .run)) ⌝ }
+    ensures { λ r. ⌜ (r .how ≡ 3 → Answered (now (buf .exit)) (now (out .exit)) (r .run)) ⌝ }
+{
+    let end = read_all(buf, out);
+    let run = end.run;
+    if end.how == ENDED {
+        return close(buf, out, run);
+    }
+    if end.how == UNREAD {
+        return because(send_all(out, run), UNREAD);
+    }
+    end
+}
+
 fn main() {
     let mut input = io::large_buffer();
     let buf: &mut [u8] = &mut input;
     let mut output = io::large_buffer();
     let out: &mut [u8] = &mut output;
-    let end = read_all(buf, out);
-    let run = end.run;
-    if end.how == ENDED {
-        close(buf, out, run);
-        return;
-    }
-    if end.how != UNWRITTEN {
-        send_all(out, run);
-    }
+    list_all(buf, out);
 }

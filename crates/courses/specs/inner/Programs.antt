@@ -14,6 +14,12 @@ pub record Reached (buf out : List ℕ) (run : Run) : Type 0 where
   pub output : List ℕ
   pub course : Course (record { input = input; output = output; buf = buf; out = out; run = run })
 
+-- They are those of a course, all lines that had ended are answered, and nothing waits to be written.
+pub record Answered (buf out : List ℕ) (run : Run) : Type 0 where
+  pub reached : Reached buf out run
+  pub still : run .more ≡ false
+  pub none : run .used ≡ 0
+
 -- They are those of an ending, and nothing waits to be written.
 pub record Closed (buf out : List ℕ) (run : Run) : Type 0 where
   pub input : List ℕ

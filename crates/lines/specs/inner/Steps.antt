@@ -9,6 +9,7 @@ use Rattle.reader.specs.declared.Answer.{Answer}
 use Rattle.listing.specs.declared.Form.{Form}
 use Rattle.listing.specs.Listing.{readBy, lineOf}
 use Rattle.lines.specs.declared.Run.{Run}
+use Rattle.lines.specs.Lines.{ended}
 
 -- ---- numbers, with a top
 
@@ -29,15 +30,7 @@ unfoldable pub counted : (List ℕ → Answer) → ℕ → List (List ℕ) → L
 counted read n [] = []
 counted read n (l ∷ ls) = lineOf read n l ++ counted read (nextOf n) ls
 
--- ---- the lines that LF ends, and the bytes that some of them take
-
-unfoldable pub onto : ℕ → List (List ℕ) → List (List ℕ)
-onto b [] = []
-onto b (l ∷ ls) = (b ∷ l) ∷ ls
-
-unfoldable pub ended : List ℕ → List (List ℕ)
-ended [] = []
-ended (b ∷ s) = cond (eqb b 10) ([] ∷ ended s) (onto b (ended s))
+-- ---- the bytes that ended lines take
 
 unfoldable pub joined : List (List ℕ) → List ℕ
 joined [] = []

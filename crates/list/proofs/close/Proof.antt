@@ -1,6 +1,7 @@
 -- `list::close` meets its contract: with nothing left to list and the output free, `finish` leaves only writes to do.
 -- Assumes nothing.
 use mathlib.Core.Path.{_∙_}
+use native.Mathlib.Omega.{arith}
 use Rattle.courses.proofs.Programs.{waits, sent-reached, sent-more, finish-waits, closes}
 use borrow.Author.Needs.{needs}
 use Rattle.list.proofs.close.Statement.{statement}
@@ -10,7 +11,7 @@ send-all-requires : tie.Need-send-all-requires
 send-all-requires c κs = waits (c .before .before .before .pre .1)
 
 returns : tie.Need-returns
-returns c = λ e. absurd (c .if1 .taken e)
+returns c = λ e. absurd (omega (arith, c .before .before .send-all .ensures .2))
 
 send-all-requires-2 : tie.Need-send-all-requires-2
 send-all-requires-2 c κs =
@@ -21,13 +22,20 @@ send-all-requires-2 c κs =
 
 returns-2 : tie.Need-returns-2
 returns-2 c =
-    let f = c .before .before .before .before in
+    let l = c .before in
+    let f = l .before .before .before .before in
     let a = f .before .before .before .before .before in
     let s = a .before .before .before .before in
-    λ e. closes _ _ _ _ _ _ (sent-reached _ _ _ _ (s .pre .1) (a .send-all .ensures .0)) (sent-more _ _ (a .send-all .ensures .0) ∙ s .pre .0 .1)
-    (s .pre .0 .0) (a .send-all .ensures .3 (f .before .before .before .if1 .left)) (f .finish .ensures) (c .send-all2 .ensures .0) (c .send-all2 .ensures .3 e)
+    λ e.
+    let x = c .because .ensures .1 e in (
+      x .0,
+      rw (c .because .ensures .0)
+          (closes _ _ _ _ _ _ (sent-reached _ _ _ _ (s .pre .1) (a .send-all .ensures .0)) (sent-more _ _ (a .send-all .ensures .0) ∙ s .pre .0 .1)
+          (s .pre .0 .0) (a .send-all .ensures .3 (f .before .before .before .if1 .left)) (f .finish .ensures) (l .send-all2 .ensures .0) (l .send-all2 .ensures .3 (x .1))),
+    )
 
 pub close-spec : {M : Type 1} → statement M
 close-spec =
     tie.close
-    (tie.spec send-all-requires (λ c. search needs) returns (λ c κs. search needs) send-all-requires-2 (λ c. search needs) returns-2)
+    (tie.spec
+    send-all-requires (λ c. search needs) returns (λ c κs. search needs) send-all-requires-2 (λ c κs. search needs) (λ c. search needs) returns-2)

@@ -1,14 +1,11 @@
 -- `list::fill` meets its contract: the read ends within the buffer and leaves its front, and `received` is told its count.
 -- Assumes nothing.
-use mathlib.Core.Path.{_≡_, ap, _∙_}
+use mathlib.Core.Path.{_≡_, _∙_}
 use mathlib.Core.List.{List}
 use Prim.Native.Nat.{ℕ, _+_, _-_, _≤_, _<_}
-use native.Mathlib.Nat.{zero-min}
 use native.Mathlib.Omega.{arith}
-use lib.IntN.{ℤ, pos}
 use lib.ListN.{length, take, drop, length-take, length-drop}
 use borrow.Rule.Slice.PartMut.{putMid, same-len-mid, take-put}
-use Rattle.io.specs.Counts.{clamped}
 use Rattle.courses.proofs.Programs.{none-more}
 use borrow.Author.Needs.{needs}
 use Rattle.list.proofs.fill.Statement.{statement}
@@ -16,9 +13,6 @@ use Rattle.list.proofs.fill.Tie as tie
 
 within : (at n : ℕ) (l : List ℕ) → n ≤ length (take (length l - at) (drop at l)) → at ≤ length l → at + n ≤ length l
 within at n l h k = omega (arith, simp (length-take, length-drop) at h)
-
-nothing : (z : ℤ) (n most : ℕ) → n ≡ clamped z most → z ≡ pos 0 → n ≡ 0
-nothing z n most e f = e ∙ ap (λ (y : ℤ). clamped y most) f ∙ zero-min most
 
 returns : tie.Need-returns
 returns c =
@@ -38,7 +32,7 @@ returns c =
         front = take-put at (length before - at) before read (omega arith);
         is = c .received .ensures;
       },
-      λ e. none-more _ _ _ _ (c .received .ensures) (nothing _ _ _ (k .count .ensures .1) (t .after-read .ensures e)),
+      λ e. none-more _ _ _ _ (c .received .ensures) (k .count .ensures .1 ∙ t .after-read .ensures e _),
     )
 
 pub fill-spec : {M : Type 1} → statement M

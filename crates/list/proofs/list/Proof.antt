@@ -19,7 +19,7 @@ returns c =
 returns-2 : tie.Need-returns-2
 returns-2 c =
     let p = c .before .before .before .before .before in
-    (stepped-reached _ _ _ _ _ _ (p .before .before .before .before .before .pre) (p .step .ensures), λ e. omega arith)
+    (stepped-reached _ _ _ _ _ _ (p .before .before .before .before .before .pre) (p .step .ensures), omega arith)
 
 pub list-spec : {M : Type 1} → statement M
 list-spec =

@@ -3,6 +3,7 @@
 use mathlib.Core.Bool.{false}
 use mathlib.Core.Path.{_≡_, refl}
 use native.Mathlib.Omega.{arith}
+use Prim.Native.Nat.{_≤_}
 use lib.ListN.{length}
 use Rattle.courses.specs.inner.Programs.{Reached}
 use Rattle.courses.proofs.Programs.{start-reached}
@@ -12,7 +13,7 @@ use Rattle.list.proofs.read_all.Tie as tie
 
 abbrev Inv-loop : tie.InvT-loop
 Inv-loop buf₀ out₀ place₀ turns₀ buf out place turns =
-    (length buf ≡ length buf₀) × (length out ≡ length out₀) × Reached buf out (place .run) × (place .how ≡ 1 → place .run .more ≡ false)
+    (length buf ≡ length buf₀) × (length out ≡ length out₀) × Reached buf out (place .run) × (2 ≤ place .how → place .run .more ≡ false)
 
 abbrev μ-loop : tie.MeasureT-loop
 μ-loop buf₀ out₀ place₀ turns₀ buf out place turns = turns

@@ -20,7 +20,7 @@ loop-holds c = (none, c .before .pre, refl)
 returns : tie.Need-returns Inv-loop μ-loop
 returns c =
     let i = c .before .before .before .loop .inv in
-    (i .0, i .1, λ e. omega (arith, i .2), λ e. c .if1 .taken)
+    (i .0, i .1, omega (arith, i .2), λ e. c .if1 .taken)
 
 returns-2 : tie.Need-returns-2 Inv-loop μ-loop
 returns-2 c =
@@ -35,7 +35,7 @@ loop-again c =
     (sent-on _ _ _ (i .0) (p .send .ensures .0), p .send .ensures .1, c .if2 .left)
 
 returns-3 : tie.Need-returns-3 Inv-loop μ-loop
-returns-3 c = let i = c .before .before .loop .inv in (i .0, i .1, λ e. omega arith, λ e. absurd (omega arith))
+returns-3 c = let i = c .before .before .loop .inv in (i .0, i .1, omega arith, λ e. absurd (omega arith))
 
 pub send-all-spec : {M : Type 1} → statement M
 send-all-spec =

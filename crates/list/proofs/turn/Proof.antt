@@ -8,7 +8,7 @@ use Rattle.list.proofs.turn.Statement.{statement}
 use Rattle.list.proofs.turn.Tie as tie
 
 returns : tie.Need-returns
-returns c = let l = c .before .before .before .before in (l .list .ensures .0, λ e. absurd (l .list .ensures .1 e))
+returns c = let l = c .before .before .before .before in (l .list .ensures .0, λ e. absurd (omega (arith, l .list .ensures .1)))
 
 fill-requires : tie.Need-fill-requires
 fill-requires c κs =
