@@ -13,7 +13,7 @@ use Rattle.reader.specs.declared.Answer.{Answer}
 use Rattle.listing.specs.Listing.{lineOf}
 use Rattle.lines.specs.declared.Run.{Run}
 use Rattle.lines.specs.Lines.{ended}
-use Rattle.lines.specs.inner.Steps.{nextOf, lastOf, fit, answersOf, takenOf, numberPast, leftOf, fitting, wrote, PutAt, ListedAt, readerOf, pendingOf, roomOf, stepText, stepSize, stepMore, restOf, keptOf, stepOut, stepBuf, stepRun, lastText, lastMore, lastOut, lastRun, finishOut, finishRun, receivedRun, writtenRun}
+use Rattle.lines.specs.inner.Steps.{nextOf, lastOf, fit, answersOf, takenOf, numberPast, leftOf, fitting, wrote, PutAt, ListedAt, readerOf, movedRun, pendingOf, roomOf, stepText, stepSize, stepMore, restOf, keptOf, stepOut, stepBuf, stepRun, lastText, lastMore, lastOut, lastRun, finishOut, finishRun, receivedRun, writtenRun}
 use Rattle.lines.proofs.Cuts.{size-within}
 use Rattle.lines.proofs.Steps.{text-room, number-room, more-room, text-full, number-full, more-full, text-none, number-none, more-none, wrote-none, fitting-room, fitting-full}
 use Rattle.lines.proofs.Parts.{part, take-min, take-least, drop-least, wrote-least}
@@ -77,12 +77,12 @@ module _ (buf out : List ℕ) (run : Run) (e f u : ℕ) (ee : e ≡ min (run .en
     out-is = l .4 ∙ ap (wrote out u) text-is ∙ rw eu (wrote-least out (run .used) (stepText buf out run))
 
     pub left-more : more ≡ true
-        → (record { form = run .form; number = number; from = f + taken; end = e; sent = run .sent; used = used; more = more } ≡ stepRun buf out run)
+        → (movedRun run number (f + taken) e used true ≡ stepRun buf out run)
         × (buf ≡ stepBuf buf out run) × (out′ ≡ stepOut buf out run)
     unfolding stepRun stepBuf
     left-more m =
         let y : stepMore buf out run ≡ true = sym more-is ∙ m in
-        (rw (m, y, taken-is, number-is, all-used, from-is, end-is), rw y, out-is)
+        (rw (y, taken-is, number-is, all-used, from-is, end-is), rw y, out-is)
 
     module _ (held : ℕ) (buf′ : List ℕ)
         (k : (held ≡ min 65 (e - (f + taken))) × (buf′ ≡ take (min 65 (e - (f + taken))) (drop (f + taken) buf) ++ drop (min 65 (e - (f + taken))) buf)) where
@@ -98,18 +98,18 @@ module _ (buf out : List ℕ) (run : Run) (e f u : ℕ) (ee : e ≡ min (run .en
           sym n ∙ ap length kept-is
 
       pub left-open : more ≡ false
-          → (record { form = run .form; number = number; from = 0; end = held; sent = run .sent; used = used; more = more } ≡ stepRun buf out run)
+          → (movedRun run number 0 held used false ≡ stepRun buf out run)
           × (buf′ ≡ stepBuf buf out run) × (out′ ≡ stepOut buf out run)
       unfolding stepRun stepBuf
       left-open m =
           let y : stepMore buf out run ≡ false = sym more-is ∙ m in
           let h : held ≡ length (keptOf buf out run) = k .0 ∙ held-is in
-          (rw (m, y, h, number-is, all-used), rw (y, k .1, kept-is, held-is), out-is)
+          (rw (y, h, number-is, all-used), rw (y, k .1, kept-is, held-is), out-is)
 
   -- ---- the last line
 
   pub last-none : f ≡ e
-      → (record { form = run .form; number = run .number; from = f; end = e; sent = run .sent; used = u; more = false } ≡ lastRun buf out run) × (out ≡ lastOut buf out run)
+      → (movedRun run (run .number) f e u false ≡ lastRun buf out run) × (out ≡ lastOut buf out run)
   unfolding lastRun lastOut lastText lastMore lastOf
   last-none q =
       let z : e - f ≡ 0 = omega arith in
@@ -134,7 +134,7 @@ module _ (buf out : List ℕ) (run : Run) (e f u : ℕ) (ee : e ≡ min (run .en
         x ∙ rw eu (wrote-least out (run .used) (fitting (roomOf out run) (lineOf (readerOf run) (run .number) (pendingOf buf run))))
 
     pub last-full : full ≡ true
-        → (record { form = run .form; number = run .number; from = f; end = e; sent = run .sent; used = u; more = full } ≡ lastRun buf out run) × (out′ ≡ lastOut buf out run)
+        → (movedRun run (run .number) f e u true ≡ lastRun buf out run) × (out′ ≡ lastOut buf out run)
     unfolding lastRun lastOut lastText lastMore
     last-full m =
         let r : List ℕ → Answer = readerOf run in
@@ -143,12 +143,12 @@ module _ (buf out : List ℕ) (run : Run) (e f u : ℕ) (ee : e ≡ min (run .en
         let room : ℕ = roomOf out run in
         let y : ltb room (length (lineOf r n p)) ≡ true = sym test-is ∙ m in
         let h : room < length (lineOf r n p) = ltb-true room (length (lineOf r n p)) y in (
-          rw (m, last-is, text-full r room n p [] h, number-full r room n p [] h, more-full r room n p [] h, from-is, end-is, used-is) (rw add-zero),
+          rw (last-is, text-full r room n p [] h, number-full r room n p [] h, more-full r room n p [] h, from-is, end-is, used-is) (rw add-zero),
           put-out ∙ rw (last-is, text-full r room n p [] h, fitting-full room (lineOf r n p) y),
         )
 
     pub last-fits : (number′ : ℕ) → number′ ≡ nextOf (run .number) → full ≡ false
-        → (record { form = run .form; number = number′; from = e; end = e; sent = run .sent; used = used′; more = full } ≡ lastRun buf out run) × (out′ ≡ lastOut buf out run)
+        → (movedRun run number′ e e used′ false ≡ lastRun buf out run) × (out′ ≡ lastOut buf out run)
     unfolding lastRun lastOut lastText lastMore
     last-fits number′ en m =
         let r : List ℕ → Answer = readerOf run in
@@ -162,7 +162,7 @@ module _ (buf out : List ℕ) (run : Run) (e f u : ℕ) (ee : e ≡ min (run .en
         ∙ sym (fitting-room room (lineOf r n p) y) in
         let k : numberPast r room n (p ∷ []) ≡ nextOf n = number-room r room n p [] h ∙ number-none r (room - length (lineOf r n p)) (nextOf n) in
         let g : leftOf r room n (p ∷ []) ≡ false = more-room r room n p [] h ∙ more-none r (room - length (lineOf r n p)) (nextOf n) in
-        (rw (m, last-is, t, k, g, en, put-used, end-is), put-out ∙ rw (last-is, t))
+        (rw (last-is, t, k, g, en, put-used, end-is), put-out ∙ rw (last-is, t))
 
 pub finish-last : (buf out : List ℕ) (run r : Run) (o : List ℕ) → run .more ≡ false → (r ≡ lastRun buf out run) × (o ≡ lastOut buf out run)
     → (r ≡ finishRun buf out run) × (o ≡ finishOut buf out run)
@@ -177,7 +177,7 @@ unfolding receivedRun
 received-none size n run e = rw (eq-eqb n 0 e)
 
 pub received-some : (size n : ℕ) (run : Run) (e k : ℕ) → (n ≡ 0 → ⊥) → e ≡ min (run .end) size → k ≡ min n (size - e)
-    → record { form = run .form; number = run .number; from = run .from; end = e + k; sent = run .sent; used = run .used; more = true } ≡ receivedRun size run n
+    → movedRun run (run .number) (run .from) (e + k) (run .used) true ≡ receivedRun size run n
 unfolding receivedRun
 received-some size n run e k ne ee ek = let x : e + k ≡ min (run .end + n) size = omega arith in rw (ne-eqb n 0 ne, x)
 

@@ -6,7 +6,7 @@ ghost use mathlib.Core.List.{_++_};
 ghost use Prim.Native.Nat.{_-_, _≤_, min};
 ghost use lib.ListN.{length, take, drop};
 ghost use Rattle.listing.specs.Listing.{readBy, lineOf};
-ghost use Rattle.lines.specs.inner.Steps.{nextOf, PutAt, ListedAt, stepRun, stepBuf, stepOut, lastRun, lastOut, finishRun, finishOut, startRun, receivedRun, writtenRun};
+ghost use Rattle.lines.specs.inner.Steps.{nextOf, movedRun, PutAt, ListedAt, stepRun, stepBuf, stepOut, lastRun, lastOut, finishRun, finishOut, startRun, receivedRun, writtenRun};
 
 // Between two calls: how a line is read, and the next one's number; the bytes that wait to be listed, buf[from..end]; those
 // that wait to be written, out[sent..used]; and whether lines may be left to list.
@@ -18,6 +18,13 @@ pub struct Run {
     pub sent: usize,
     pub used: usize,
     pub more: bool,
+}
+
+// A state's places, within the buffers.
+struct Places {
+    from: usize,
+    end: usize,
+    used: usize,
 }
 
 // After one line: where the output ends, and whether the line's answer lacked room.
@@ -41,6 +48,34 @@ fn least(a: usize, b: usize) -> usize
     ensures { λ r. ⌜ r ≡ min a b ⌝ }
 {
     if a < b { a } else { b }
+}
+
+// Where a state's places lie past a buffer's end, its end.
+fn places_of(run: Run, size: usize, room: usize) -> Places
+    ensures { λ r. ⌜ (r .end ≡ min (run .end) size) × (r .from ≡ min (run .from) (r .end)) × (r .used ≡ min (run .used) room) ⌝ }
+{
+    let end = least(run.end, size);
+    Places {
+        from: least(run.from, end),
+        end,
+        used: least(run.used, room),
+    }
+}
+
+// The state of the same run at another place.
+fn moved(run: Run, number: u64, from: usize, end: usize, used: usize, more: bool) -> Run
+    ensures { λ r. ⌜ r ≡ movedRun run number from end used more ⌝ }
+{
+    let form = run.form;
+    Run {
+        form,
+        number,
+        from,
+        end,
+        sent: run.sent,
+        used,
+        more,
+    }
 }
 
 // The next line's number. At the top it stays, so that no sum wraps.
@@ -122,24 +157,17 @@ pub fn step(buf: &mut [u8], out: &mut [u8], run: Run) -> Run
         × (now (buf .exit) ≡ stepBuf (now (buf .entry)) (now (out .entry)) run)
         × (now (out .exit) ≡ stepOut (now (buf .entry)) (now (out .entry)) run) ⌝ }
 {
-    let end = least(run.end, buf.len());
-    let from = least(run.from, end);
-    let used = least(run.used, out.len());
+    let at = places_of(run, buf.len(), out.len());
+    let from = at.from;
+    let end = at.end;
     let form = run.form;
-    let listed = list_lines(form, &buf[from..end], run.number, out, used);
+    let listed = list_lines(form, &buf[from..end], run.number, out, at.used);
     let open = from + listed.taken;
-    let mut next = run;
-    next.number = listed.number;
-    next.used = listed.used;
-    next.more = listed.more;
     if listed.more {
-        next.from = open;
-        next.end = end;
-        return next;
+        return moved(run, listed.number, open, end, listed.used, true);
     }
-    next.from = 0;
-    next.end = keep(buf, open, end);
-    next
+    let held = keep(buf, open, end);
+    moved(run, listed.number, 0, held, listed.used, false)
 }
 
 // Lists all that waits as one line, where it is not empty and there is room.
@@ -147,27 +175,19 @@ fn put_last(buf: &[u8], out: &mut [u8], run: Run) -> Run
     ensures { λ r. ⌜ (r ≡ lastRun (now (buf .entry)) (now (out .entry)) run)
         × (now (out .exit) ≡ lastOut (now (buf .entry)) (now (out .entry)) run) ⌝ }
 {
-    let end = least(run.end, buf.len());
-    let from = least(run.from, end);
-    let used = least(run.used, out.len());
+    let at = places_of(run, buf.len(), out.len());
+    let from = at.from;
+    let end = at.end;
     let form = run.form;
-    let mut next = run;
-    next.from = from;
-    next.end = end;
-    next.used = used;
-    next.more = false;
+    let number = run.number;
     if from == end {
-        return next;
+        return moved(run, number, from, end, at.used, false);
     }
-    let put = put_line(form, &buf[from..end], run.number, out, used);
-    next.more = put.full;
+    let put = put_line(form, &buf[from..end], number, out, at.used);
     if put.full {
-        return next;
+        return moved(run, number, from, end, at.used, true);
     }
-    next.number = next_number(run.number);
-    next.from = end;
-    next.used = put.used;
-    next
+    moved(run, next_number(number), end, end, put.used, false)
 }
 
 // Lists the last line, where the input did not end it: to be called when the input has ended. Where lines are left, they
@@ -190,10 +210,8 @@ pub fn received(buf: &[u8], run: Run, n: usize) -> Run
         return run;
     }
     let end = least(run.end, buf.len());
-    let mut next = run;
-    next.end = end + least(n, buf.len() - end);
-    next.more = true;
-    next
+    let grown = end + least(n, buf.len() - end);
+    moved(run, run.number, run.from, grown, run.used, true)
 }
 
 // Where the first n bytes of those that waited were written.

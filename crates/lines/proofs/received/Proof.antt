@@ -1,5 +1,6 @@
 -- `lines::received` meets its contract: no sum wraps.
 -- Assumes nothing.
+use mathlib.Core.Path.{_∙_}
 use Rattle.lines.proofs.Runs.{received-none, received-some}
 use borrow.Author.Needs.{needs}
 use Rattle.lines.proofs.received.Statement.{statement}
@@ -10,8 +11,11 @@ returns c = received-none _ _ (c .before .before .args .run) (c .if1 .taken)
 
 returns-2 : tie.Need-returns-2
 returns-2 c =
-    let e = c .before .before in
-    received-some _ _ (e .before .before .args .run) _ _ (e .if1 .left) (c .before .least .ensures) (c .least2 .ensures)
+    let l = c .before .before in
+    c .moved .ensures ∙ received-some _ _ (l .before .before .before .args .run) _ _ (l .before .if1 .left) (l .least .ensures) (c .before .least2 .ensures)
 
 pub received-spec : {M : Type 1} → statement M
-received-spec = tie.close (tie.spec returns (λ c κs. search needs) (λ c. search needs) (λ c κs. search needs) (λ c. search needs) returns-2)
+received-spec =
+    tie.close
+    (tie.spec
+    returns (λ c κs. search needs) (λ c. search needs) (λ c κs. search needs) (λ c. search needs) (λ c κs. search needs) returns-2)

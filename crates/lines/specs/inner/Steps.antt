@@ -97,6 +97,10 @@ ListedAt read block n out at taken number used more exit =
 abbrev pub readerOf : Run → List ℕ → Answer
 readerOf run = readBy (run .form)
 
+-- The state of the same run at another place.
+abbrev pub movedRun : Run → (number from end used : ℕ) (more : Bool) → Run
+movedRun run number from end used more = record { form = run .form; number = number; from = from; end = end; sent = run .sent; used = used; more = more }
+
 -- The bytes that wait to be listed.
 unfoldable pub pendingOf : List ℕ → Run → List ℕ
 pendingOf buf run = drop (run .from) (take (run .end) buf)
@@ -134,15 +138,12 @@ stepBuf buf out run = cond (stepMore buf out run) buf (keptOf buf out run ++ dro
 
 unfoldable pub stepRun : List ℕ → List ℕ → Run → Run
 stepRun buf out run =
-    record {
-      form = run .form;
-      number = numberPast (readerOf run) (roomOf out run) (run .number) (ended (pendingOf buf run));
-      from = cond (stepMore buf out run) (min (run .from) (length (take (run .end) buf)) + stepSize buf out run) 0;
-      end = cond (stepMore buf out run) (length (take (run .end) buf)) (length (keptOf buf out run));
-      sent = run .sent;
-      used = length (take (run .used) out) + length (stepText buf out run);
-      more = stepMore buf out run;
-    }
+    movedRun run
+    (numberPast (readerOf run) (roomOf out run) (run .number) (ended (pendingOf buf run)))
+    (cond (stepMore buf out run) (min (run .from) (length (take (run .end) buf)) + stepSize buf out run) 0)
+    (cond (stepMore buf out run) (length (take (run .end) buf)) (length (keptOf buf out run)))
+    (length (take (run .used) out) + length (stepText buf out run))
+    (stepMore buf out run)
 
 -- ---- the last line
 
@@ -157,15 +158,12 @@ lastOut buf out run = wrote out (run .used) (lastText buf out run)
 
 unfoldable pub lastRun : List ℕ → List ℕ → Run → Run
 lastRun buf out run =
-    record {
-      form = run .form;
-      number = numberPast (readerOf run) (roomOf out run) (run .number) (lastOf (pendingOf buf run));
-      from = cond (lastMore buf out run) (min (run .from) (length (take (run .end) buf))) (length (take (run .end) buf));
-      end = length (take (run .end) buf);
-      sent = run .sent;
-      used = length (take (run .used) out) + length (lastText buf out run);
-      more = lastMore buf out run;
-    }
+    movedRun run
+    (numberPast (readerOf run) (roomOf out run) (run .number) (lastOf (pendingOf buf run)))
+    (cond (lastMore buf out run) (min (run .from) (length (take (run .end) buf))) (length (take (run .end) buf)))
+    (length (take (run .end) buf))
+    (length (take (run .used) out) + length (lastText buf out run))
+    (lastMore buf out run)
 
 -- Where lines are left, the last one waits for them: nothing moves.
 unfoldable pub finishOut : List ℕ → List ℕ → Run → List ℕ
@@ -182,15 +180,7 @@ startRun form = record { form = form; number = 1; from = 0; end = 0; sent = 0; u
 -- n bytes more wait to be listed, as far as the buffer goes. Where none came, nothing changes.
 unfoldable pub receivedRun : ℕ → Run → ℕ → Run
 receivedRun size run n =
-    record {
-      form = run .form;
-      number = run .number;
-      from = run .from;
-      end = cond (eqb n 0) (run .end) (min (run .end + n) size);
-      sent = run .sent;
-      used = run .used;
-      more = cond (eqb n 0) (run .more) true;
-    }
+    movedRun run (run .number) (run .from) (cond (eqb n 0) (run .end) (min (run .end + n) size)) (run .used) (cond (eqb n 0) (run .more) true)
 
 -- The first n of the bytes that wait to be written no longer do. Where none is left, the output is free again.
 unfoldable pub writtenRun : Run → ℕ → Run
