@@ -125,7 +125,7 @@ fn list(buf: &mut [u8], out: &mut [u8], run: Run) -> Place
     }
 }
 
-// Lists what waits, and reads where nothing does.
+// Lists the lines that are left; where none is, one read.
 fn turn(buf: &mut [u8], out: &mut [u8], run: Run) -> Place
     requires { ⌜ 65 < length (now buf) ⌝ }
     requires { ⌜ Reached (now buf) (now out) run ⌝ }
