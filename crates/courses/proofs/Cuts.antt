@@ -2,13 +2,14 @@
 use mathlib.Core.Path.{_≡_, refl, sym, ap, _∙_}
 use mathlib.Core.Bool.{true}
 use mathlib.Core.List.{List, [], _∷_, _++_, append-assoc}
-use Prim.Native.Nat.{ℕ, zero, suc}
+use Prim.Native.Nat.{ℕ, zero, suc, _≤_}
+use native.Mathlib.Omega.{arith}
 use lib.ListN.{length, take, drop, length-append}
 use lib.Seq.{drop-append-add}
 use Rattle.whole.proofs.Parts.{clash}
 use Rattle.lines.specs.Lines.{glue, linesOf, ended}
 use Rattle.lines.specs.inner.Steps.{joined, lastOf}
-use Rattle.lines.proofs.Cuts.{free, free-cons, ended-line, ended-open, Cut, whole, line, cut}
+use Rattle.lines.proofs.Cuts.{free, free-cons, Parts, parts-line, ended-line, ended-open, Cut, whole, line, cut}
 
 -- ---- texts with no LF
 
@@ -35,10 +36,17 @@ open-free s e = free-by-ended s (cut s) e
 
 -- ---- the lines of a text that starts with one, and of one that has no LF
 
-pub lines-line : (t s : List ℕ) → free t ≡ true → linesOf (t ++ (10 ∷ s)) ≡ t ∷ linesOf s
+glue-fewer : (b : ℕ) (ls : List (List ℕ)) → length (glue b ls) ≤ suc (length ls)
+unfolding glue
+glue-fewer b [] = omega arith
+glue-fewer b (l ∷ ls) = omega arith
+
+pub lines-parts : Parts linesOf glue
 unfolding linesOf glue
-lines-line [] s e = refl
-lines-line (b ∷ t) s e = let x = free-cons b t e in rw (x .0, lines-line t s (x .1))
+lines-parts = record { none = refl; byte = λ b s. refl; before = λ b l ls. refl; fewer = glue-fewer }
+
+pub lines-line : (t s : List ℕ) → free t ≡ true → linesOf (t ++ (10 ∷ s)) ≡ t ∷ linesOf s
+lines-line = parts-line linesOf glue lines-parts
 
 glue-last : (b : ℕ) (t : List ℕ) → glue b (lastOf t) ≡ (b ∷ t) ∷ []
 unfolding glue lastOf

@@ -6,14 +6,14 @@ use mathlib.Core.List.{List, [], _∷_, _++_, append-assoc}
 use Prim.Native.Nat.{ℕ, zero, suc, _+_, _-_, _≤_, _<_, min}
 use native.Mathlib.Omega.{arith}
 use borrow.Author.Tests.{lt-ltb, ltb-true, ltb-false}
-use lib.Dec.{eqb, ltb}
+use lib.Dec.{ltb}
 use lib.ListN.{length, take, drop, length-append, length-take}
 use lib.Seq.{take-all, length-take-le, drop-drop, take-append-seam}
 use Rattle.whole.proofs.Parts.{clash}
 use Rattle.reader.specs.declared.Answer.{Answer}
 use Rattle.listing.specs.Listing.{lineOf, answerOf}
 use Rattle.lines.specs.declared.Run.{Run}
-use Rattle.lines.specs.Lines.{glue, linesOf, numbered, ended, onto}
+use Rattle.lines.specs.Lines.{linesOf, numbered, ended}
 use Rattle.lines.specs.inner.Steps.{top, nextOf, numberAfter, counted, joined, lastOf, some, fit, answersOf, takenOf, numberPast, leftOf, readerOf, pendingOf, roomOf, stepText, stepSize, stepMore, restOf, keptOf, stepBuf, stepRun}
 use Rattle.lines.proofs.Cuts.{free, ended-line, ended-open, Cut, whole, line, cut}
 use Rattle.lines.proofs.Parts.{take-least, drop-least}
@@ -76,14 +76,14 @@ module _ (read : List ℕ → Answer) where
   plain n [] h = refl
   plain n (l ∷ ls) h = rw (lt-ltb n top (omega arith)) (ap (λ (x : List ℕ). lineOf read n l ++ x) (plain (n + 1) ls (omega arith)))
 
--- ---- two ways to part a text into lines
+-- ---- two ways to part a text into lines, of which 65 bytes of an open one say enough
 
-pub record Parts (lines : List ℕ → List (List ℕ)) : Type 0 where
+pub record Cuttable (lines : List ℕ → List (List ℕ)) : Type 0 where
   pub first : (t s : List ℕ) → free t ≡ true → lines (t ++ (10 ∷ s)) ≡ t ∷ lines s
   pub last : (read : List ℕ → Answer) (n : ℕ) (t f : List ℕ) → free t ≡ true → free f ≡ true → counted read n (lines (t ++ f)) ≡ counted read n (lines (take 65 t ++ f))
 
 -- all lines
-pub all-lines : Parts linesOf
+pub all-lines : Cuttable linesOf
 all-lines =
     record {
       first = lines-line;
@@ -93,14 +93,14 @@ all-lines =
     }
 
 -- those that LF ends
-pub ended-lines : Parts ended
+pub ended-lines : Cuttable ended
 ended-lines =
     record {
       first = ended-line;
       last = λ read n t f e g. rw (ended-open (t ++ f) (free-both t f e g), ended-open (take 65 t ++ f) (free-both (take 65 t) f (free-take 65 t e) g));
     }
 
-module _ (read : List ℕ → Answer) (lines : List ℕ → List (List ℕ)) (w : Parts lines) where
+module _ (read : List ℕ → Answer) (lines : List ℕ → List (List ℕ)) (w : Cuttable lines) where
   pub goes : (room n : ℕ) (p f : List ℕ)
       → counted read n (lines (p ++ f)) ≡ answersOf read room n (ended p) ++ counted read (numberPast read room n (ended p)) (lines (drop (takenOf read room n (ended p)) p ++ f))
   unfolding answersOf numberPast takenOf
@@ -150,7 +150,7 @@ module _ (buf out : List ℕ) (run : Run) where
   unfolding keptOf
   step-open e = rw (kept e) (ended-take 65 (restOf buf out run) (rest-open e))
 
-  module _ (lines : List ℕ → List (List ℕ)) (w : Parts lines) where
+  module _ (lines : List ℕ → List (List ℕ)) (w : Cuttable lines) where
     step-by : (z : Bool) → stepMore buf out run ≡ z → (m : ℕ) (f : List ℕ)
         → counted (readerOf run) m (lines (restOf buf out run ++ f)) ≡ counted (readerOf run) m (lines (pendingOf (stepBuf buf out run) (stepRun buf out run) ++ f))
     unfolding keptOf
@@ -165,33 +165,3 @@ module _ (buf out : List ℕ) (run : Run) where
     pub step-goes : (f : List ℕ) → counted (readerOf run) (run .number) (lines (pendingOf buf run ++ f))
         ≡ stepText buf out run ++ counted (readerOf run) (stepRun buf out run .number) (lines (pendingOf (stepBuf buf out run) (stepRun buf out run) ++ f))
     step-goes f = step-at f ∙ ap (λ (x : List ℕ). stepText buf out run ++ x) (step-by (stepMore buf out run) refl (stepRun buf out run .number) f)
-
--- ---- there are no more lines than bytes
-
-glue-le : (b : ℕ) (ls : List (List ℕ)) (k : ℕ) → length ls ≤ k → length (glue b ls) ≤ suc k
-unfolding glue
-glue-le b [] k h = omega arith
-glue-le b (l ∷ ls) k h = omega arith
-
-lines-by : (b : ℕ) (z : Bool) (ls : List (List ℕ)) (k : ℕ) → length ls ≤ k → length (cond z ([] ∷ ls) (glue b ls)) ≤ suc k
-lines-by b true ls k h = omega arith
-lines-by b false ls k h = glue-le b ls k h
-
-pub lines-le : (s : List ℕ) → length (linesOf s) ≤ length s
-unfolding linesOf
-lines-le [] = omega arith
-lines-le (b ∷ s) = lines-by b (eqb b 10) (linesOf s) (length s) (lines-le s)
-
-onto-le : (b : ℕ) (ls : List (List ℕ)) → length (onto b ls) ≤ length ls
-unfolding onto
-onto-le b [] = omega arith
-onto-le b (l ∷ ls) = omega arith
-
-ended-by : (b : ℕ) (z : Bool) (ls : List (List ℕ)) (k : ℕ) → length ls ≤ k → length (cond z ([] ∷ ls) (onto b ls)) ≤ suc k
-ended-by b true ls k h = omega arith
-ended-by b false ls k h = omega (arith, onto-le b ls)
-
-pub ended-le : (s : List ℕ) → length (ended s) ≤ length s
-unfolding ended
-ended-le [] = omega arith
-ended-le (b ∷ s) = ended-by b (eqb b 10) (ended s) (length s) (ended-le s)

@@ -11,10 +11,11 @@ use Rattle.listing.specs.declared.Form.{Form}
 use Rattle.lines.specs.declared.Run.{Run}
 use Rattle.lines.specs.Lines.{numbered, listingOf, ended}
 use Rattle.lines.specs.inner.Steps.{top, readerOf, lastOf, roomOf, pendingOf, lastText, lastOut, lastRun, startRun, stepRun, stepBuf, stepOut, finishRun, finishOut, receivedRun, writtenRun}
-use Rattle.courses.specs.Courses.{begins, steps, writes, Ending, finishes, writes-on}
-use Rattle.courses.specs.inner.Programs.{Reached, Answered, Closed, Delivered, Sent, none, one, Waits}
+use Rattle.lines.proofs.Runs.{finish-run, finish-out}
+use Rattle.courses.specs.Courses.{begins, steps, writes, finishes, writes-on}
+use Rattle.courses.specs.inner.Programs.{Reached, Answered, Over, Closed, Delivered, Sent, none, one, Waits}
 use Rattle.courses.proofs.Stands.{Stands, course-stands, put-within, text-le, sent-bound}
-use Rattle.courses.proofs.Whole.{read-block, whole-listing, answered-listing, ends, finish-run, finish-out}
+use Rattle.courses.proofs.Whole.{read-block, whole-listing, answered-listing, ends}
 
 -- what a reached state keeps to
 pub stands : {buf out : List ℕ} {run : Run} (r : Reached buf out run) → Stands (record { input = r .input; output = r .output; buf = buf; out = out; run = run })
@@ -39,19 +40,24 @@ pub stepped-reached : (buf out : List ℕ) (run : Run) (buf′ out′ : List ℕ
     → (r ≡ stepRun buf out run) × (buf′ ≡ stepBuf buf out run) × (out′ ≡ stepOut buf out run) → Reached buf′ out′ r
 stepped-reached buf out run buf′ out′ r h e = rw (e .0, e .1, e .2) (record { input = _; output = _; course = steps (h .course) })
 
-pub sent-reached : (buf out : List ℕ) (run r : Run) → Reached buf out run → Sent run r → Reached buf out r
-sent-reached buf out run r h none = h
-sent-reached buf out run r h (one {r = q} n s) = let x = sent-reached buf out run q h s in record { input = _; output = _; course = writes n (x .course) }
+-- what each write keeps, all of them keep
+sent-keeps : (P : Run → Type 0) → ((r : Run) (n : ℕ) → P r → P (writtenRun r n)) → (run r : Run) → P run → Sent run r → P r
+sent-keeps P one-keeps run r h none = h
+sent-keeps P one-keeps run r h (one {r = q} n s) = one-keeps q n (sent-keeps P one-keeps run q h s)
 
-pub sent-more : (run r : Run) → Sent run r → r .more ≡ run .more
-unfolding writtenRun
-sent-more run r none = refl
-sent-more run r (one {r = q} n s) = sent-more run q s
+pub sent-reached : (buf out : List ℕ) (run r : Run) → Reached buf out run → Sent run r → Reached buf out r
+sent-reached buf out = sent-keeps (Reached buf out) (λ r n h. record { input = _; output = _; course = writes n (h .course) })
+
+sent-over : (buf out : List ℕ) (run r : Run) → Over buf out run → Sent run r → Over buf out r
+sent-over buf out = sent-keeps (Over buf out) (λ r n h. record { input = _; output = _; ending = writes-on n (h .ending) })
 
 -- writes after writes
 pub sent-on : (a b c : Run) → Sent a b → Sent b c → Sent a c
-sent-on a b c s none = s
-sent-on a b c s (one {r = q} n t) = one n (sent-on a b q s t)
+sent-on a = sent-keeps (Sent a) (λ r n s. one n s)
+
+pub sent-more : (run r : Run) → Sent run r → r .more ≡ run .more
+unfolding writtenRun
+sent-more run r s = sent-keeps (λ q. q .more ≡ run .more) (λ q n e. e) run r refl s
 
 pub written-sent : (run r : Run) (n : ℕ) → r ≡ writtenRun run n → Sent run r
 written-sent run r n e = rw e (one n none)
@@ -83,27 +89,18 @@ module _ (buf out : List ℕ) (run : Run) (w : Waits out run) where
   pub finish-waits : run .more ≡ false → (out′ : List ℕ) (r : Run) → (r ≡ finishRun buf out run) × (out′ ≡ finishOut buf out run) → Waits out′ r
   finish-waits m out′ r e = rw (e .0, e .1, finish-run buf out run m, finish-out buf out run m) last-waits
 
-record Over (buf out : List ℕ) (run : Run) : Type 0 where
-  input : List ℕ
-  output : List ℕ
-  ending : Ending (record { input = input; output = output; buf = buf; out = out; run = run })
-
-sent-over : (buf out : List ℕ) (run r : Run) → Over buf out run → Sent run r → Over buf out r
-sent-over buf out run r h none = h
-sent-over buf out run r h (one {r = q} n s) = let x = sent-over buf out run q h s in record { input = _; output = _; ending = writes-on n (x .ending) }
-
 -- After `finish`, with nothing left and room for one line, all that is left to do is to write.
 pub closes : (buf out : List ℕ) (run : Run) (out′ : List ℕ) (r q : Run) → Reached buf out run → run .more ≡ false → 128 ≤ length out → run .used ≡ 0
     → (r ≡ finishRun buf out run) × (out′ ≡ finishOut buf out run) → Sent r q → q .used ≡ 0 → Closed buf out′ q
 unfolding roomOf
 closes buf out run out′ r q h m room free e s z =
     let o : Over buf out′ r = rw (e .0, e .1) (record { input = _; output = _; ending = finishes (h .course) (ends buf out run m (omega arith)) }) in
-    let x = sent-over buf out′ r q o s in
-    record { input = x .input; output = x .output; ending = x .ending; none = z }
+    record { over = sent-over buf out′ r q o s; none = z }
 
 -- THE CLAIM, for a program: what it has written when it is closed is the listing of what it has read.
-pub closed-listing : {buf out : List ℕ} {run : Run} (c : Closed buf out run) → length (c .input) < top → c .output ≡ listingOf (readerOf run) (c .input)
-closed-listing c n = whole-listing (c .ending) (omega (arith, c .none)) n
+pub closed-listing : {buf out : List ℕ} {run : Run} (c : Closed buf out run) → length (c .over .input) < top
+    → c .over .output ≡ listingOf (readerOf run) (c .over .input)
+closed-listing c n = whole-listing (c .over .ending) (omega (arith, c .none)) n
 
 -- And where a read failed, the listing of the lines that had ended.
 pub answered-lines : {buf out : List ℕ} {run : Run} (a : Answered buf out run) → length (a .reached .input) < top

@@ -20,7 +20,7 @@ use Rattle.lines.specs.inner.Steps.{nextOf, counted, answersOf, wrote, readerOf
 use Rattle.lines.proofs.Steps.{text-room, text-full, text-none}
 use Rattle.lines.proofs.Runs.{size-le}
 use Rattle.courses.specs.Courses.{State, atStart, given, stepped, written, Course, begins, reads, steps, writes}
-use Rattle.courses.proofs.Goes.{Parts, step-goes, step-open}
+use Rattle.courses.proofs.Goes.{Cuttable, step-goes, step-open}
 
 pub record Stands (s : State) : Type 0 where
   pub low : s .run .from ≤ s .run .end
@@ -29,7 +29,7 @@ pub record Stands (s : State) : Type 0 where
   pub used : s .run .used ≤ length (s .out)
   pub short : s .run .more ≡ false → s .run .end ≤ 65
   pub done : s .run .more ≡ false → ended (pendingOf (s .buf) (s .run)) ≡ []
-  pub is : (lines : List ℕ → List (List ℕ)) → Parts lines → (f : List ℕ)
+  pub is : (lines : List ℕ → List (List ℕ)) → Cuttable lines → (f : List ℕ)
       → (s .output ++ waitingOf (s .out) (s .run)) ++ counted (readerOf (s .run)) (s .run .number) (lines (pendingOf (s .buf) (s .run) ++ f))
       ≡ counted (readerOf (s .run)) 1 (lines (s .input ++ f))
 
@@ -200,7 +200,7 @@ module _ (s : State) (h : Stands s) where
   given-stands (a ∷ b) buf e = some-stands (a ∷ b) buf e (λ z. omega arith)
 
   kept-by : (n : ℕ) → (writtenRun (s .run) n .sent ≤ writtenRun (s .run) n .used) × (writtenRun (s .run) n .used ≤ length (s .out))
-      → ((lines : List ℕ → List (List ℕ)) → Parts lines → (f : List ℕ)
+      → ((lines : List ℕ → List (List ℕ)) → Cuttable lines → (f : List ℕ)
       → ((s .output ++ take n (waitingOf (s .out) (s .run))) ++ waitingOf (s .out) (writtenRun (s .run) n))
       ++ counted (readerOf (s .run)) (s .run .number) (lines (pendingOf (s .buf) (s .run) ++ f))
       ≡ counted (readerOf (s .run)) 1 (lines (s .input ++ f)))

@@ -11,12 +11,14 @@ use Rattle.reader.specs.declared.Answer.{Answer}
 use Rattle.listing.specs.Listing.{lineOf}
 use Rattle.listing.proofs.Fit.{line-le}
 use Rattle.lines.specs.declared.Run.{Run}
-use Rattle.lines.specs.Lines.{linesOf, listingOf, ended, numbered}
-use Rattle.lines.specs.inner.Steps.{top, nextOf, counted, lastOf, fit, answersOf, takenOf, leftOf, readerOf, pendingOf, waitingOf, roomOf, stepSize, stepMore, stepRun, lastText, lastMore, lastOut, lastRun, finishOut, finishRun, writtenRun}
+use Rattle.lines.specs.Lines.{linesOf, listingOf, ended, numbered, glue, onto}
+use Rattle.lines.specs.inner.Steps.{top, nextOf, counted, lastOf, fit, answersOf, takenOf, leftOf, readerOf, pendingOf, waitingOf, roomOf, stepSize, stepMore, stepRun, lastText, lastMore, lastOut, lastRun, finishRun, writtenRun}
+use Rattle.lines.proofs.Cuts.{parts-le, ended-parts}
 use Rattle.lines.proofs.Steps.{size-room, more-room, more-none}
+use Rattle.lines.proofs.Runs.{finish-run, finish-out}
 use Rattle.courses.specs.Courses.{State, given, written, finished, Course, reads, Ending, finishes, writes-on}
-use Rattle.courses.proofs.Cuts.{open-free, lines-open}
-use Rattle.courses.proofs.Goes.{plain, lines-le, ended-le, none-by, all-lines, ended-lines}
+use Rattle.courses.proofs.Cuts.{open-free, lines-open, lines-parts}
+use Rattle.courses.proofs.Goes.{plain, none-by, all-lines, ended-lines}
 use Rattle.courses.proofs.Stands.{course-stands, put-waits, sent-waits}
 
 -- What a read has to leave: the front of the buffer as it was. The block is what then stands behind it.
@@ -41,15 +43,6 @@ module _ (buf out : List ℕ) (run : Run) where
   finish-open : finishRun buf out run .more ≡ false → run .more ≡ false
   unfolding finishRun
   finish-open x = open-by (run .more) refl x
-
-  module _ (m : run .more ≡ false) where
-    pub finish-run : finishRun buf out run ≡ lastRun buf out run
-    unfolding finishRun
-    finish-run = ap (λ (z : Bool). cond z run (lastRun buf out run)) m
-
-    pub finish-out : finishOut buf out run ≡ lastOut buf out run
-    unfolding finishOut
-    finish-out = ap (λ (z : Bool). cond z out (lastOut buf out run)) m
 
   last-goes : ended (pendingOf buf run) ≡ [] → lastRun buf out run .more ≡ false → lastText buf out run ≡ counted (readerOf run) (run .number) (linesOf (pendingOf buf run))
   unfolding lastRun lastText lastMore answersOf leftOf
@@ -109,7 +102,7 @@ whole-counted {s} e h = sym (append-nil (s .output)) ∙ ap (λ (x : List ℕ). 
 -- THE CLAIM: the listing, of an input of fewer than 2^64 - 1 bytes.
 pub whole-listing : {s : State} → Ending s → s .run .used ≤ s .run .sent → length (s .input) < top → s .output ≡ listingOf (readerOf (s .run)) (s .input)
 unfolding listingOf
-whole-listing {s} e h n = whole-counted e h ∙ plain (readerOf (s .run)) 1 (linesOf (s .input)) (omega (arith, lines-le (s .input)))
+whole-listing {s} e h n = whole-counted e h ∙ plain (readerOf (s .run)) 1 (linesOf (s .input)) (omega (arith, parts-le linesOf glue lines-parts (s .input)))
 
 -- ---- the input breaks off
 
@@ -124,7 +117,7 @@ answered-listing {s} c m h n =
     k .is ended ended-lines [] in
     let y : s .output ≡ counted (readerOf run) 1 (ended (s .input)) =
     rw (none-waits (s .out) run h, append-nil (pendingOf (s .buf) run), k .done m, append-nil (s .output), append-nil (s .output), append-nil (s .input)) at x in
-    y ∙ plain (readerOf run) 1 (ended (s .input)) (omega (arith, ended-le (s .input)))
+    y ∙ plain (readerOf run) 1 (ended (s .input)) (omega (arith, parts-le ended onto ended-parts (s .input)))
 
 -- ---- with room for one line there is no standing still
 

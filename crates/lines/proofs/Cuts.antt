@@ -26,12 +26,42 @@ pub free-cons : (b : ℕ) (s : List ℕ) → free (b ∷ s) ≡ true → (eqb b 
 unfolding free
 free-cons b s e = free-by (eqb b 10) s e
 
--- ---- a text with no LF, and one that starts with a line
+-- ---- what parts a text at each LF, and puts any other byte before the line that follows it
+
+pub record Parts (lines : List ℕ → List (List ℕ)) (join : ℕ → List (List ℕ) → List (List ℕ)) : Type 0 where
+  pub none : lines [] ≡ []
+  pub byte : (b : ℕ) (s : List ℕ) → lines (b ∷ s) ≡ cond (eqb b 10) ([] ∷ lines s) (join b (lines s))
+  pub before : (b : ℕ) (l : List ℕ) (ls : List (List ℕ)) → join b (l ∷ ls) ≡ (b ∷ l) ∷ ls
+  pub fewer : (b : ℕ) (ls : List (List ℕ)) → length (join b ls) ≤ suc (length ls)
+
+module _ (lines : List ℕ → List (List ℕ)) (join : ℕ → List (List ℕ) → List (List ℕ)) (w : Parts lines join) where
+  -- a text that starts with a line
+  pub parts-line : (t s : List ℕ) → free t ≡ true → lines (t ++ (10 ∷ s)) ≡ t ∷ lines s
+  parts-line [] s e = w .byte 10 s
+  parts-line (b ∷ t) s e = let x = free-cons b t e in rw (w .byte b (t ++ (10 ∷ s)), x .0, parts-line t s (x .1)) (w .before b t (lines s))
+
+  -- there are no more lines than bytes
+  fewer-by : (b : ℕ) (z : Bool) (ls : List (List ℕ)) (k : ℕ) → length ls ≤ k → length (cond z ([] ∷ ls) (join b ls)) ≤ suc k
+  fewer-by b true ls k h = omega arith
+  fewer-by b false ls k h = omega (arith, w .fewer b ls)
+
+  pub parts-le : (s : List ℕ) → length (lines s) ≤ length s
+  parts-le [] = rw (w .none) (omega arith)
+  parts-le (b ∷ s) = rw (w .byte b s) (fewer-by b (eqb b 10) (lines s) (length s) (parts-le s))
+
+-- ---- the lines that LF ends
+
+onto-fewer : (b : ℕ) (ls : List (List ℕ)) → length (onto b ls) ≤ suc (length ls)
+unfolding onto
+onto-fewer b [] = omega arith
+onto-fewer b (l ∷ ls) = omega arith
+
+pub ended-parts : Parts ended onto
+unfolding ended onto
+ended-parts = record { none = refl; byte = λ b s. refl; before = λ b l ls. refl; fewer = onto-fewer }
 
 pub ended-line : (t s : List ℕ) → free t ≡ true → ended (t ++ (10 ∷ s)) ≡ t ∷ ended s
-unfolding ended onto
-ended-line [] s e = refl
-ended-line (b ∷ t) s e = let x = free-cons b t e in rw (x .0, ended-line t s (x .1))
+ended-line = parts-line ended onto ended-parts
 
 pub ended-open : (t : List ℕ) → free t ≡ true → ended t ≡ []
 unfolding ended onto

@@ -164,11 +164,15 @@ module _ (buf out : List ℕ) (run : Run) (e f u : ℕ) (ee : e ≡ min (run .en
         let g : leftOf r room n (p ∷ []) ≡ false = more-room r room n p [] h ∙ more-none r (room - length (lineOf r n p)) (nextOf n) in
         (rw (last-is, t, k, g, en, put-used, end-is), put-out ∙ rw (last-is, t))
 
-pub finish-last : (buf out : List ℕ) (run r : Run) (o : List ℕ) → run .more ≡ false → (r ≡ lastRun buf out run) × (o ≡ lastOut buf out run)
-    → (r ≡ finishRun buf out run) × (o ≡ finishOut buf out run)
-unfolding finishRun finishOut
-finish-last buf out run r o e x =
-    (x .0 ∙ sym (ap (λ (z : Bool). cond z run (lastRun buf out run)) e), x .1 ∙ sym (ap (λ (z : Bool). cond z out (lastOut buf out run)) e))
+-- where no line is left, it is all that `finish` does
+module _ (buf out : List ℕ) (run : Run) (m : run .more ≡ false) where
+  pub finish-run : finishRun buf out run ≡ lastRun buf out run
+  unfolding finishRun
+  finish-run = ap (λ (z : Bool). cond z run (lastRun buf out run)) m
+
+  pub finish-out : finishOut buf out run ≡ lastOut buf out run
+  unfolding finishOut
+  finish-out = ap (λ (z : Bool). cond z out (lastOut buf out run)) m
 
 -- ---- after a read, and after a write
 

@@ -20,11 +20,15 @@ pub record Answered (buf out : List ℕ) (run : Run) : Type 0 where
   pub still : run .more ≡ false
   pub none : run .used ≡ 0
 
--- They are those of an ending, and nothing waits to be written.
-pub record Closed (buf out : List ℕ) (run : Run) : Type 0 where
+-- They are those of an ending.
+pub record Over (buf out : List ℕ) (run : Run) : Type 0 where
   pub input : List ℕ
   pub output : List ℕ
   pub ending : Ending (record { input = input; output = output; buf = buf; out = out; run = run })
+
+-- They are those of an ending, and nothing waits to be written.
+pub record Closed (buf out : List ℕ) (run : Run) : Type 0 where
+  pub over : Over buf out run
   pub none : run .used ≡ 0
 
 -- One read: the bytes that wait stay, and `received` is told how many stand behind them.
