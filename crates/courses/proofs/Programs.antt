@@ -1,10 +1,11 @@
 -- A program whose functions keep to their contracts goes by a course, and ends with the listing. Assumes nothing.
 use mathlib.Core.Path.{_≡_, refl, sym, ap, _∙_}
-use mathlib.Core.Bool.{false}
+use mathlib.Core.Bool.{Bool, true, false, cond}
 use mathlib.Core.List.{List}
 use Prim.Native.Nat.{ℕ, _-_, _≤_, _<_}
 use native.Mathlib.Omega.{arith}
-use borrow.Author.Tests.{eq-eqb}
+use borrow.Author.Tests.{eq-eqb, eqb-true}
+use lib.Dec.{eqb}
 use lib.ListN.{length, take, drop, length-drop}
 use lib.Seq.{length-take-le}
 use Rattle.listing.specs.declared.Form.{Form}
@@ -13,7 +14,7 @@ use Rattle.lines.specs.Lines.{numbered, listingOf, ended}
 use Rattle.lines.specs.inner.Steps.{top, readerOf, lastOf, roomOf, pendingOf, lastText, lastOut, lastRun, startRun, stepRun, stepBuf, stepOut, finishRun, finishOut, receivedRun, writtenRun}
 use Rattle.lines.proofs.Runs.{finish-run, finish-out}
 use Rattle.courses.specs.Courses.{begins, steps, writes, finishes, writes-on}
-use Rattle.courses.specs.inner.Programs.{Reached, Answered, Over, Closed, Delivered, Sent, none, one, Waits}
+use Rattle.courses.specs.inner.Programs.{Reached, Answered, Over, Closed, Stops, unwritten, Delivered, Sent, none, one, Waits}
 use Rattle.courses.proofs.Stands.{Stands, course-stands, put-within, text-le, sent-bound}
 use Rattle.courses.proofs.Whole.{read-block, whole-listing, answered-listing, ends}
 
@@ -96,6 +97,19 @@ unfolding roomOf
 closes buf out run out′ r q h m room free e s z =
     let o : Over buf out′ r = rw (e .0, e .1) (record { input = _; output = _; ending = finishes (h .course) (ends buf out run m (omega arith)) }) in
     record { over = sent-over buf out′ r q o s; none = z }
+
+-- ---- how a run stops
+
+stops-by : (buf out : List ℕ) (run : Run) (h k : ℕ) (z : Bool) → eqb h 0 ≡ z → (h ≡ 0 → Stops buf out run k) → Stops buf out run (cond z k 1)
+stops-by buf out run h k true e f = f (eqb-true h 0 e)
+stops-by buf out run h k false e f = unwritten
+
+-- by what it was told, if all was written
+pub stops : (buf out : List ℕ) (run r : Run) (h k g : ℕ) → (r ≡ run) × (g ≡ cond (eqb h 0) k 1) → (h ≡ 0 → Stops buf out run k) → Stops buf out r g
+stops buf out run r h k g e f = rw (e .0, e .1) (stops-by buf out run h k (eqb h 0) refl f)
+
+pub stops-unwritten : (buf out : List ℕ) (run : Run) (h : ℕ) → h ≤ 1 → (h ≡ 0 → ⊥) → Stops buf out run h
+stops-unwritten buf out run h l ne = let e : h ≡ 1 = omega arith in rw e unwritten
 
 -- THE CLAIM, for a program: what it has written when it is closed is the listing of what it has read.
 pub closed-listing : {buf out : List ℕ} {run : Run} (c : Closed buf out run) → length (c .over .input) < top

@@ -4,12 +4,13 @@ use libc::STDIN_FILENO;
 use libc::STDOUT_FILENO;
 use lines::Run;
 use listing::Form;
-ghost use mathlib.Core.Bool.{false};
+ghost use mathlib.Core.Bool.{false, cond};
 ghost use mathlib.Core.Path.{_≡_};
 ghost use Prim.Native.Nat.{ℕ, _<_, _≤_};
+ghost use lib.Dec.{eqb};
 ghost use lib.ListN.{length};
 ghost use Rattle.io.specs.Counts.{clamped};
-ghost use Rattle.courses.specs.inner.Programs.{Reached, Answered, Closed, Delivered, Sent, Waits};
+ghost use Rattle.courses.specs.inner.Programs.{Reached, Stops, Delivered, Sent, Waits};
 
 // How the program stands: it goes on; a write failed; the input has ended; a read failed.
 const GOING: u8 = 0;
@@ -158,21 +159,23 @@ fn read_all(buf: &mut [u8], out: &mut [u8]) -> Place
 
 // All that waits was written, for the reason that is told; or a write failed.
 fn because(sent: Place, how: u8) -> Place
-    requires { ⌜ sent .how ≤ 1 ⌝ }
-    ensures { λ r. ⌜ (r .run ≡ sent .run) × (2 ≤ r .how → (r .how ≡ how) × (sent .how ≡ 0)) ⌝ }
+    ensures { λ r. ⌜ (r .run ≡ sent .run) × (r .how ≡ cond (eqb (sent .how) 0) how 1) ⌝ }
 {
-    if sent.how != GOING {
-        return sent;
-    }
     let run = sent.run;
-    Place { run, how }
+    if sent.how == GOING {
+        return Place { run, how };
+    }
+    Place {
+        run,
+        how: UNWRITTEN,
+    }
 }
 
 // After the end of the input: what waits, and the last line where there is one.
 fn close(buf: &[u8], out: &mut [u8], run: Run) -> Place
     requires { ⌜ (128 ≤ length (now out)) × (run .more ≡ false) ⌝ }
     requires { ⌜ Reached (now buf) (now out) run ⌝ }
-    ensures { λ r. ⌜ (2 ≤ r .how → (r .how ≡ 2) × Closed (now (buf .entry)) (now (out .exit)) (r .run)) ⌝ }
+    ensures { λ r. ⌜ Stops (now (buf .entry)) (now (out .exit)) (r .run) (r .how) ⌝ }
 {
     let freed = send_all(out, run);
     if freed.how != GOING {
@@ -186,8 +189,7 @@ fn close(buf: &[u8], out: &mut [u8], run: Run) -> Place
 // The whole run. Where a read failed, what is answered is written all the same; where a write failed, nothing more is.
 fn list_all(buf: &mut [u8], out: &mut [u8]) -> Place
     requires { ⌜ (65 < length (now buf)) × (128 ≤ length (now out)) ⌝ }
-    ensures { λ r. ⌜ (r .how ≡ 2 → Closed (now (buf .exit)) (now (out .exit)) (r .run)) ⌝ }
-    ensures { λ r. ⌜ (r .how ≡ 3 → Answered (now (buf .exit)) (now (out .exit)) (r .run)) ⌝ }
+    ensures { λ r. ⌜ Stops (now (buf .exit)) (now (out .exit)) (r .run) (r .how) ⌝ }
 {
     let end = read_all(buf, out);
     let run = end.run;
@@ -197,7 +199,10 @@ fn list_all(buf: &mut [u8], out: &mut [u8]) -> Place
     if end.how == UNREAD {
         return because(send_all(out, run), UNREAD);
     }
-    end
+    Place {
+        run,
+        how: UNWRITTEN,
+    }
 }
 
 fn main() {

@@ -31,6 +31,13 @@ pub record Closed (buf out : List ℕ) (run : Run) : Type 0 where
   pub over : Over buf out run
   pub none : run .used ≡ 0
 
+-- The three ways in which a whole run stops: a write failed; the input ended, and all of it is listed and written; a read
+-- failed, and all lines that had ended are.
+pub data Stops (buf out : List ℕ) (run : Run) : ℕ → Type 0 where
+  unwritten : Stops buf out run 1
+  through : Closed buf out run → Stops buf out run 2
+  unread : Answered buf out run → Stops buf out run 3
+
 -- One read: the bytes that wait stay, and `received` is told how many stand behind them.
 pub record Delivered (before after : List ℕ) (run r : Run) : Type 0 where
   pub count : ℕ
