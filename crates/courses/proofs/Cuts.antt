@@ -9,7 +9,7 @@ use lib.Seq.{drop-append-add}
 use Rattle.whole.proofs.Parts.{clash}
 use Rattle.lines.specs.Lines.{glue, linesOf, ended}
 use Rattle.lines.specs.inner.Steps.{joined, lastOf}
-use Rattle.lines.proofs.Cuts.{free, free-cons, Parts, parts-line, ended-line, ended-open, Cut, whole, line, cut}
+use Rattle.lines.proofs.Cuts.{free, free-cons, Parting, parts-line, ended-line, ended-open, Cut, whole, line, cut}
 
 -- ---- texts with no LF
 
@@ -41,7 +41,7 @@ unfolding glue
 glue-fewer b [] = omega arith
 glue-fewer b (l ∷ ls) = omega arith
 
-pub lines-parts : Parts linesOf glue
+pub lines-parts : Parting linesOf glue
 unfolding linesOf glue
 lines-parts = record { none = refl; byte = λ b s. refl; before = λ b l ls. refl; fewer = glue-fewer }
 

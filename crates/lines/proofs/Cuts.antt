@@ -28,13 +28,13 @@ free-cons b s e = free-by (eqb b 10) s e
 
 -- ---- what parts a text at each LF, and puts any other byte before the line that follows it
 
-pub record Parts (lines : List ℕ → List (List ℕ)) (join : ℕ → List (List ℕ) → List (List ℕ)) : Type 0 where
+pub record Parting (lines : List ℕ → List (List ℕ)) (join : ℕ → List (List ℕ) → List (List ℕ)) : Type 0 where
   pub none : lines [] ≡ []
   pub byte : (b : ℕ) (s : List ℕ) → lines (b ∷ s) ≡ cond (eqb b 10) ([] ∷ lines s) (join b (lines s))
   pub before : (b : ℕ) (l : List ℕ) (ls : List (List ℕ)) → join b (l ∷ ls) ≡ (b ∷ l) ∷ ls
   pub fewer : (b : ℕ) (ls : List (List ℕ)) → length (join b ls) ≤ suc (length ls)
 
-module _ (lines : List ℕ → List (List ℕ)) (join : ℕ → List (List ℕ) → List (List ℕ)) (w : Parts lines join) where
+module _ (lines : List ℕ → List (List ℕ)) (join : ℕ → List (List ℕ) → List (List ℕ)) (w : Parting lines join) where
   -- a text that starts with a line
   pub parts-line : (t s : List ℕ) → free t ≡ true → lines (t ++ (10 ∷ s)) ≡ t ∷ lines s
   parts-line [] s e = w .byte 10 s
@@ -56,7 +56,7 @@ unfolding onto
 onto-fewer b [] = omega arith
 onto-fewer b (l ∷ ls) = omega arith
 
-pub ended-parts : Parts ended onto
+pub ended-parts : Parting ended onto
 unfolding ended onto
 ended-parts = record { none = refl; byte = λ b s. refl; before = λ b l ls. refl; fewer = onto-fewer }
 

@@ -1,4 +1,4 @@
--- What `step` and `put_last` make of the answers of the functions that they call. Assumes nothing.
+-- What `step` and `finish` make of the answers of the functions that they call. Assumes nothing.
 use mathlib.Core.Path.{_≡_, refl, sym, ap, _∙_}
 use mathlib.Core.Bool.{Bool, true, false, cond}
 use mathlib.Core.List.{List, [], _∷_, _++_, append-nil}

@@ -6,7 +6,7 @@ ghost use mathlib.Core.List.{_++_};
 ghost use Prim.Native.Nat.{_-_, _≤_, min};
 ghost use lib.ListN.{length, take, drop};
 ghost use Rattle.listing.specs.Listing.{readBy, lineOf};
-ghost use Rattle.lines.specs.inner.Steps.{nextOf, movedRun, PutAt, ListedAt, stepRun, stepBuf, stepOut, lastRun, lastOut, finishRun, finishOut, startRun, receivedRun, writtenRun};
+ghost use Rattle.lines.specs.inner.Steps.{nextOf, movedRun, PutAt, ListedAt, stepRun, stepBuf, stepOut, finishRun, finishOut, startRun, receivedRun, writtenRun};
 
 // Between two calls: how a line is read, and the next one's number; the bytes that wait to be listed, buf[from..end]; those
 // that wait to be written, out[sent..used]; and whether lines may be left to list.
@@ -170,11 +170,15 @@ pub fn step(buf: &mut [u8], out: &mut [u8], run: Run) -> Run
     moved(run, listed.number, 0, held, listed.used, false)
 }
 
-// Lists all that waits as one line, where it is not empty and there is room.
-fn put_last(buf: &[u8], out: &mut [u8], run: Run) -> Run
-    ensures { λ r. ⌜ (r ≡ lastRun (now (buf .entry)) (now (out .entry)) run)
-        × (now (out .exit) ≡ lastOut (now (buf .entry)) (now (out .entry)) run) ⌝ }
+// Lists the last line, where the input did not end it: to be called when the input has ended. Where lines are left, they
+// come first, and nothing is done.
+pub fn finish(buf: &[u8], out: &mut [u8], run: Run) -> Run
+    ensures { λ r. ⌜ (r ≡ finishRun (now (buf .entry)) (now (out .entry)) run)
+        × (now (out .exit) ≡ finishOut (now (buf .entry)) (now (out .entry)) run) ⌝ }
 {
+    if run.more {
+        return run;
+    }
     let at = places_of(run, buf.len(), out.len());
     let from = at.from;
     let end = at.end;
@@ -188,18 +192,6 @@ fn put_last(buf: &[u8], out: &mut [u8], run: Run) -> Run
         return moved(run, number, from, end, at.used, true);
     }
     moved(run, next_number(number), end, end, put.used, false)
-}
-
-// Lists the last line, where the input did not end it: to be called when the input has ended. Where lines are left, they
-// come first, and nothing is done.
-pub fn finish(buf: &[u8], out: &mut [u8], run: Run) -> Run
-    ensures { λ r. ⌜ (r ≡ finishRun (now (buf .entry)) (now (out .entry)) run)
-        × (now (out .exit) ≡ finishOut (now (buf .entry)) (now (out .entry)) run) ⌝ }
-{
-    if run.more {
-        return run;
-    }
-    put_last(buf, out, run)
 }
 
 // Where n bytes more were read behind those that wait. Where there is none, all is as it was.
