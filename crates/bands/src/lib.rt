@@ -10,7 +10,7 @@ const UTM_BANDS: [u8; 20] = *b"CDEFGHJKLMNPQRSTUVWX";
 const UPS_BANDS: [u8; 4] = *b"ABYZ";
 
 // The grid of a zone number.
-#[derive(Drop)]
+#[derive(Clone, Copy)]
 pub enum Grid {
     Utm,
     Ups,

@@ -83,13 +83,13 @@ pub fn bare_of(zone: i64, band: u8) -> Position
 // ---- 8, 9, 10: the block of 100 km
 
 // The tiles of a column and a row letter.
-#[derive(Drop)]
+#[derive(Clone, Copy)]
 pub struct Tiles {
     pub easting: u8,
     pub northing: u8,
 }
 
-#[derive(Drop)]
+#[derive(Clone, Copy)]
 pub enum BlockAnswer {
     Block(Tiles),
     NoBlock(u64),

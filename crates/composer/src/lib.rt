@@ -104,14 +104,14 @@ fn row_letter(zone: i64, north: bool, tile: usize) -> u8
 // ---- 14 to 19: a point's parts
 
 // A bare zone: nothing of a point is in it.
-#[derive(Drop)]
+#[derive(Clone, Copy)]
 pub struct BareZone {
     pub zone: i64,
     pub band: u8,
 }
 
 // What there is to write, or the rule that forbids it.
-#[derive(Drop)]
+#[derive(Clone, Copy)]
 pub enum Composed {
     Full(Parts),
     Bare(BareZone),

@@ -22,7 +22,7 @@ const SUMS: u64 = 4_294_967_296;
 // ---- one reference, written and read back
 
 // How many references were tried, written and read back, and a sum over all bytes written, in their order.
-#[derive(Drop)]
+#[derive(Clone, Copy)]
 struct Count {
     tried: u64,
     written: u64,
@@ -186,7 +186,7 @@ fn bare_zones() -> Count {
 
 // ---- the corners of tiles
 
-#[derive(Drop)]
+#[derive(Clone, Copy)]
 struct Tile {
     zone: i64,
     north: bool,
@@ -222,7 +222,7 @@ fn corners(tile: Tile, band: u8, p: i64, count: Count) -> Count {
 
 // How many bands fit, are refused by 19 and are refused by anything else, and what was written of those that fit, by its
 // digits.
-#[derive(Drop)]
+#[derive(Clone, Copy)]
 struct Tally {
     fitting: u64,
     misfits: u64,

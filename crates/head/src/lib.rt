@@ -6,14 +6,14 @@ ghost use Rattle.head.specs.Head.{is_inv, zone_wrong, head_of};
 use runs::{Lead, ZoneLead};
 
 // The zone, 0 for UPS, the band as a capital, and where the text goes on after it.
-#[derive(Drop)]
+#[derive(Clone, Copy)]
 pub struct Head {
     pub zone: i64,
     pub band: u8,
     pub next: usize,
 }
 
-#[derive(Drop)]
+#[derive(Clone, Copy)]
 pub enum HeadAnswer {
     Start(Head),
     NoStart(u64),

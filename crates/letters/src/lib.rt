@@ -4,7 +4,7 @@ ghost use Rattle.letters.specs.Letters.{capital_of, north_band, east_band};
 ghost use Rattle.letters.specs.Search.{confirm, skipped_of, skipped_low, skipped_high, skipped_in_columns, skipped_in_bands, behind_of};
 
 // Where a letter stands in a set, if it does.
-#[derive(Drop)]
+#[derive(Clone, Copy)]
 pub enum Place {
     At(usize),
     NotInSet,
@@ -12,7 +12,7 @@ pub enum Place {
 
 // A set that is a part of a table: from a place up to another, how many letters come before its first, those left out aside, and the
 // tile of its first.
-#[derive(Drop)]
+#[derive(Clone, Copy)]
 pub struct Stretch {
     pub start: u8,
     pub end: u8,

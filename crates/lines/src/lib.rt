@@ -8,7 +8,7 @@ use writer::Written;
 
 // Between two calls: how a line is read, and the next one's number; the bytes that wait to be listed, buf[from..end]; those
 // that wait to be written, out[sent..used]; and whether lines may be left to list.
-#[derive(Drop)]
+#[derive(Clone, Copy)]
 pub struct Run {
     pub form: Form,
     pub number: u64,
@@ -20,7 +20,7 @@ pub struct Run {
 }
 
 // A state's places, within the buffers.
-#[derive(Drop)]
+#[derive(Clone, Copy)]
 struct Places {
     from: usize,
     end: usize,
@@ -28,14 +28,14 @@ struct Places {
 }
 
 // After one line: where the output ends, and whether the line's answer lacked room.
-#[derive(Drop)]
+#[derive(Clone, Copy)]
 struct Put {
     used: usize,
     full: bool,
 }
 
 // After the lines of one block: how many bytes they took, the next number, where the output ends, and whether one is left.
-#[derive(Drop)]
+#[derive(Clone, Copy)]
 struct Listed {
     taken: usize,
     number: u64,

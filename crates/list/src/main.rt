@@ -17,7 +17,7 @@ const ENDED: u8 = 2;
 
 const UNREAD: u8 = 3;
 
-#[derive(Drop)]
+#[derive(Clone, Copy)]
 struct Place {
     run: Run,
     how: u8,

@@ -12,7 +12,7 @@ use reader::Answer;
 use writer::Written;
 
 // What the text of a line is written in, which tells how it is read.
-#[derive(Drop)]
+#[derive(Clone, Copy)]
 pub enum Form {
     Plain,
 }

@@ -5,7 +5,7 @@ ghost use Rattle.position.specs.inner.Counts.{count_of};
 
 // What a reference stands for. Zone 0 is UPS; p is the digits of each axis, -1 for a bare zone. In this order of the fields an answer
 // is copied in the pieces in which it was stored, and no copy waits.
-#[derive(Drop)]
+#[derive(Clone, Copy)]
 pub struct Position {
     pub p: i64,
     pub zone: i64,
@@ -16,7 +16,7 @@ pub struct Position {
 }
 
 // What a full reference is made of: the letters are capitals, the numbers are those of the digits.
-#[derive(Drop)]
+#[derive(Clone, Copy)]
 pub struct Parts {
     pub zone: i64,
     pub band: u8,
@@ -86,7 +86,7 @@ pub fn south_west(q: Position) -> Position
 }
 
 // A point in metres.
-#[derive(Drop)]
+#[derive(Clone, Copy)]
 pub struct Metres {
     pub easting: f64,
     pub northing: f64,

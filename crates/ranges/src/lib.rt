@@ -15,7 +15,7 @@ const TILE: i64 = 200_000_000_000;
 const SHIFT: i64 = 20_000_000_000_000;
 
 // The lower and the upper end of a range, in units.
-#[derive(Drop)]
+#[derive(Clone, Copy)]
 struct Ends {
     pub low: i64,
     pub high: i64,
@@ -73,7 +73,7 @@ fn is_out(x: i64, ends: Ends, margin: i64) -> bool
 }
 
 // What the range tests find: a point inside, of UTM or of UPS, or the rule by which it is outside.
-#[derive(Drop)]
+#[derive(Clone, Copy)]
 enum Verdict {
     Inside(bool),
     Outside(u64),
@@ -106,7 +106,7 @@ fn verdict_of(margin: i64, zone: i64, north: bool, easting: i64, northing: i64) 
 }
 
 // Whether a point lies in the UTM range, and if not, by which rule.
-#[derive(Drop)]
+#[derive(Clone, Copy)]
 pub enum UtmCheck {
     InRange,
     Refused(u64),
@@ -123,7 +123,7 @@ pub fn utm_check_coords(zone: i64, north: bool, easting: i64, northing: i64) -> 
 }
 
 // A point after the edge rules.
-#[derive(Drop)]
+#[derive(Clone, Copy)]
 pub struct Point {
     pub north: bool,
     pub easting: i64,
@@ -210,7 +210,7 @@ fn edge_of(utm: bool, north: bool, easting: i64, northing: i64) -> Point
 }
 
 // The point after the edge rules, or the rule by which it is out of range.
-#[derive(Drop)]
+#[derive(Clone, Copy)]
 pub enum MgrsCheck {
     Moved(Point),
     Refused(u64),

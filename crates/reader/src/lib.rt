@@ -43,7 +43,7 @@ fn square_of(half: u64, parts: Parts, tiles: Tiles) -> Position
 }
 
 // What a text means: a square, a bare zone that is never taken for one, or the number of the rule that it breaks.
-#[derive(Drop)]
+#[derive(Clone, Copy)]
 pub enum Answer {
     Square(Position),
     Bare(Position),
@@ -108,7 +108,7 @@ pub fn read(text: &[u8]) -> Answer
 // ---- metres
 
 // The same in metres: a square, a bare zone, or the number.
-#[derive(Drop)]
+#[derive(Clone, Copy)]
 pub enum MetresRead {
     SquareMetres(Metres),
     BareMetres(Metres),

@@ -7,14 +7,14 @@ ghost use Rattle.rows.specs.Letters.{shift_of, letter_of};
 ghost use Rattle.rows.specs.Resolve.{resolve};
 
 // The lowest and the highest row of a band.
-#[derive(Drop)]
+#[derive(Clone, Copy)]
 pub struct Limits {
     pub low: i64,
     pub high: i64,
 }
 
 // The same in a byte each: the table is built where it is read, so it is kept small.
-#[derive(Drop)]
+#[derive(Clone, Copy)]
 struct Pair {
     low: i8,
     high: i8,
@@ -206,13 +206,13 @@ pub fn letter_of(shift: u64, row: i64) -> usize
 }
 
 // What resolution hands on of the row.
-#[derive(Drop)]
+#[derive(Clone, Copy)]
 pub struct FoundRow {
     pub row: i64,
 }
 
 // The row that a row letter means, if any.
-#[derive(Drop)]
+#[derive(Clone, Copy)]
 pub enum RowAnswer {
     Row(FoundRow),
     Nothing,

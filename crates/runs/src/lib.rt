@@ -15,14 +15,14 @@ fn then_digit(v: u64, digit: u8) -> u64
 }
 
 // How many digits lead, and their value.
-#[derive(Drop)]
+#[derive(Clone, Copy)]
 pub struct Lead {
     pub count: usize,
     pub value: u64,
 }
 
 // The digits that lead, or that their value is more than 60, which is past every zone.
-#[derive(Drop)]
+#[derive(Clone, Copy)]
 pub enum ZoneLead {
     Led(Lead),
     Past,
@@ -52,14 +52,14 @@ pub fn zone_lead(s: &[u8]) -> ZoneLead
 // ---- 11, 12, 13: the digits of both axes
 
 // Digits of each axis, and the two numbers that they spell.
-#[derive(Drop)]
+#[derive(Clone, Copy)]
 pub struct Digits {
     pub p: i64,
     pub easting: u64,
     pub northing: u64,
 }
 
-#[derive(Drop)]
+#[derive(Clone, Copy)]
 pub enum DigitsAnswer {
     Halves(Digits),
     NoHalves(u64),

@@ -45,7 +45,7 @@ pub fn shorten(text: &[u8], q: i64, out: &mut [u8]) -> Written
 // ---- covering
 
 // Whether the first reference covers the second, or the rule by which one of them is turned away.
-#[derive(Drop)]
+#[derive(Clone, Copy)]
 pub enum Covering {
     Covers,
     DoesNot,

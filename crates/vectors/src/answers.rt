@@ -4,7 +4,7 @@ use crate::pen::{beyond, front_of, put_form, size};
 use say::{front, put, put_count};
 
 // An answer of words and numbers, as `put_form` puts it.
-#[derive(Drop)]
+#[derive(Clone, Copy)]
 pub(crate) struct Said {
     pub form: [u8; 12],
     pub n: [i64; 6],

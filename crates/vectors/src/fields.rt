@@ -56,7 +56,7 @@ pub(crate) fn place_of(word: &[u8], words: &[u8]) -> usize {
 
 // ---- numbers
 
-#[derive(Drop)]
+#[derive(Clone, Copy)]
 pub(crate) enum Number {
     Is(i64),
     Not,

@@ -3,7 +3,7 @@ use crate::print;
 use bands::Grid;
 use letters::Place;
 
-#[derive(Drop)]
+#[derive(Clone, Copy)]
 enum Kind {
     Bands,
     Columns,
@@ -11,7 +11,7 @@ enum Kind {
 }
 
 // A set as it is asked for: bands have neither band nor hemisphere, and so on.
-#[derive(Drop)]
+#[derive(Clone, Copy)]
 struct Set {
     kind: Kind,
     zone: i64,

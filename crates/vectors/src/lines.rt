@@ -13,7 +13,7 @@ const ENDED: u8 = 1;
 pub(crate) const NO_LINE: u8 = 2;
 
 // The part of the block that is not yet read, the length of the line, and how it was left.
-#[derive(Drop)]
+#[derive(Clone, Copy)]
 pub(crate) struct Reading {
     pub at: usize,
     pub end: usize,

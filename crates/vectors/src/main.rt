@@ -147,7 +147,7 @@ fn take_line(line: &[u8], used: usize, counts: [u64; 18]) -> [u64; 18] {
 }
 
 // What a loop carries on is no array, but may hold one.
-#[derive(Drop)]
+#[derive(Clone, Copy)]
 struct Sheet {
     counts: [u64; 18],
 }

@@ -15,7 +15,7 @@ use Rattle.whole.proofs.Parts.{up, dn, sub_parts, sfits_by, sfits_up}
 
 -- what a call gave is read back as what it ensures
 pub back : (z v : ℤ) → mag z < 2 ^ 63 → z ≡ v → to_z w64 (of_z w64 z) ≡ v
-back z v ok e = to_z-of_z (record { sfits = ok }) ∙ e
+back z v ok e = to_z-of_z {w = w64} (record { sfits = ok }) ∙ e
 
 -- `==` of two signed numbers compares their bits
 pub is : (z : ℤ) (n : ℕ) → SFits w64 z → n < 2 ^ 63 → of_z w64 z ≡ n → is_number z n ≡ true

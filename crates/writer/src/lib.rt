@@ -53,7 +53,7 @@ fn put_head(out: &mut [u8], zone: i64, band: u8)
 }
 
 // The length written, or the rule that forbade it: nothing is written then.
-#[derive(Drop)]
+#[derive(Clone, Copy)]
 pub enum Written {
     Length(usize),
     Refused(u64),

@@ -87,7 +87,7 @@ fn zone_at(band: i64, d: i64) -> i64
 }
 
 // A zone, 0 for UPS, or a refusal's number: 22 is both.
-#[derive(Drop)]
+#[derive(Clone, Copy)]
 pub enum ZoneAnswer {
     Zone(i64),
     Refused(u64),

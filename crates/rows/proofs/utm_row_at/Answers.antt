@@ -1,0 +1,17 @@
+-- `rows::utm_row_at` meets its contract: less the shift, the letter's place is that of an odd zone, or one round further on.
+-- Assumes nothing.
+use mathlib.Core.Path.{sym, ◌∙◌}
+use borrow.Author.Rules.{rules}
+use mir.Facts.{to_z-of_z}
+use Rattle.rows.proofs.Direct.{unshifted}
+use Rattle.rows.proofs.Theorems.{no_letter, shifted}
+use Rattle.rows.proofs.utm_row_at.Goals as goal
+
+pub returns-then-letter-ge20 : goal.returns-then-letter-ge20
+returns-then-letter-ge20 c = sym (no_letter c.args.band c.args.column c.args.shift c.args.letter c.if-letter-ge20.true)
+
+pub returns : goal.returns
+unfolding unshifted
+returns c =
+    (rw (to_z-of_z c.ranges.band) at c.row_from.ensures)
+    ∙ sym (shifted c.args.band c.args.column c.args.shift c.args.letter c.if-letter-ge20.false)
