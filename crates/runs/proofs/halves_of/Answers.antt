@@ -19,11 +19,11 @@ use Rattle.words.proofs.Laws.{digit_range, digit_at}
 use Rattle.runs.proofs.halves_of.Goals as goal
 
 -- the number x of the first i digits, and the digits from there on
-abbrev So-far : List ℕ → ℕ → ℕ → Type 0
-So-far s i x = (x < 10 ^ i) × (value_of s ≡ value_from x (drop i s))
+abbrev SoFar : List ℕ → ℕ → ℕ → Type 0
+SoFar s i x = (x < 10 ^ i) × (value_of s ≡ value_from x (drop i s))
 
-module _ (s : List ℕ) (i x : ℕ) (far : So-far s i x) where
-  turn : all_digits s ≡ true → i < length s → So-far s (i + 1) (x * 10 + (get_or s i 0 - 48))
+module _ (s : List ℕ) (i x : ℕ) (far : SoFar s i x) where
+  turn : all_digits s ≡ true → i < length s → SoFar s (i + 1) (x * 10 + (get_or s i 0 - 48))
   unfolding value_from
   turn t h =
       let r = digit_range _ (digit_at s i t h) in

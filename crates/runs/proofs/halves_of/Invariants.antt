@@ -19,7 +19,7 @@ use Rattle.words.proofs.Laws.{digit_range, digit_at}
 use Rattle.runs.proofs.halves_of.Given as goal
 
 abbrev pub invariant-loop-i : goal.invariant-loop-i
-invariant-loop-i l = (l.i ≤ length l.a) × So-far l.a l.i l.easting × So-far l.b l.i l.northing
+invariant-loop-i l = (l.i ≤ length l.a) × SoFar l.a l.i l.easting × SoFar l.b l.i l.northing
 
 abbrev pub decreases-loop-i : goal.decreases-loop-i
 decreases-loop-i l = length l.a - l.i
