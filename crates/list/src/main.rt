@@ -1,12 +1,16 @@
 // One answer for each line of standard input, lines of any length, in fixed memory. All that is done to the bytes is done by
 // `lines`; here they are only read, in `fill`, and written, in `send`.
-ghost use Rattle.std.specs.Prelude.{false, cond, ◌≡◌, ℕ, ◌<◌, ◌≤◌, eqb, length};
-ghost use Rattle.io.specs.Counts.{clamp_len};
+#![tactic(auto)]
+
+ghost use Rattle.std.specs.Prelude.{false, cond, ◌≡◌, ◌<◌, ◌≤◌, eqb, length, IfOk};
+ghost use Rattle.std.specs.Process.{exit_status};
 ghost use Rattle.courses.specs.inner.Programs.{Reached, Stops, Delivered, Sent, Waits};
 
-use libc::{STDIN_FILENO, STDOUT_FILENO};
 use lines::Run;
 use listing::Form;
+use std::io;
+use std::io::{ErrorKind, Read, Write};
+use std::process::ExitCode;
 
 // How the program stands: it goes on; a write failed; the input has ended; a read failed.
 const GOING: u8 = 0;
@@ -24,79 +28,88 @@ struct Place {
 }
 
 // After a read that answered `got`. One that a signal interrupted brought nothing, and the next may bring more.
-fn after_read(got: isize) -> u8
-    ensures { 2 ≤ result → (n : ℕ) → clamp_len got n ≡ 0 }
+fn after_read(rt: &impl Eprint, got: &io::Result<usize>) -> u8
+    ensures { 2 ≤ result → IfOk got.now (λ n. n ≡ 0) }
 {
-    if got == 0 {
-        return ENDED;
-    }
-    if got < 0 {
-        if os::errno() != libc::EINTR {
-            os::fail(b"read");
-            return UNREAD;
+    match got {
+        Ok(n) => {
+            if *n == 0 {
+                return ENDED;
+            }
+            GOING
+        }
+        Err(e) => {
+            if e.kind() == ErrorKind::Interrupted {
+                return GOING;
+            }
+            let _ = eprintln!(rt; "read: {e}");
+            UNREAD
         }
     }
-    GOING
 }
 
 // One read, behind the bytes that wait. There is room, so that an empty read means the end.
-fn fill(buf: &mut [u8], run: Run) -> Place
+fn fill<R: Read>(rt: &impl Eprint, input: &mut R, buf: &mut [u8], run: Run) -> Place
     requires { run.end < length buf.old }
     ensures { Delivered buf.old buf.new run result.run × (2 ≤ result.how → result.run.more ≡ run.more) }
 {
     let at = run.end;
-    let got = libc::read(STDIN_FILENO, &mut buf[at..]);
-    let how = after_read(got);
-    let n = io::count(got, &buf[at..]);
+    let got = input.read(&mut buf[at..]);
+    let how = after_read(rt, &got);
+    let n = got.unwrap_or(0);
     let run = lines::received(buf, run, n);
     Place { run, how }
 }
 
 // After a write of some bytes that answered `got`. One that a signal interrupted took none, and the next may take them.
-fn after_write(got: isize) -> u8
+fn after_write(rt: &impl Eprint, got: &io::Result<usize>) -> u8
     ensures { result ≤ 1 }
 {
-    if 0 < got {
-        return GOING;
-    }
-    if got < 0 {
-        if os::errno() == libc::EINTR {
-            return GOING;
+    match got {
+        Ok(n) => {
+            if 0 < *n {
+                return GOING;
+            }
+            let _ = eprintln!(rt; "write: nothing was taken");
+            UNWRITTEN
+        }
+        Err(e) => {
+            if e.kind() == ErrorKind::Interrupted {
+                return GOING;
+            }
+            let _ = eprintln!(rt; "write: {e}");
+            UNWRITTEN
         }
     }
-    os::fail(b"write");
-    UNWRITTEN
 }
 
 // One write, of the bytes that wait.
-fn send(out: &[u8], run: Run) -> Place
+fn send<W: Write>(rt: &impl Eprint, output: &mut W, out: &[u8], run: Run) -> Place
     requires { Waits out.now run }
     ensures { Sent run result.run × Waits out.now result.run × (result.how ≤ 1) }
 {
     let from = run.sent;
     let to = run.used;
-    let got = libc::write(STDOUT_FILENO, &out[from..to]);
-    let how = after_write(got);
-    let n = io::count(got, &out[from..to]);
+    let got = output.write(&out[from..to]);
+    let how = after_write(rt, &got);
+    let n = got.unwrap_or(0);
     let run = lines::written(run, n);
     Place { run, how }
 }
 
 // Writes all that waits, in as many pieces as the system takes. A proved loop has to end, and nothing says that the writes
-// do: this one and that of `read_all` count down from a number that no run uses up.
-fn send_all(out: &[u8], run: Run) -> Place
+// do: this one and that of `read_all` have more turns than any run uses up.
+fn send_all<W: Write>(rt: &impl Eprint, output: &mut W, out: &[u8], run: Run) -> Place
     requires { Waits out.now run }
     ensures { Sent run result.run × Waits out.now result.run × (result.how ≤ 1) × (result.how ≡ 0 → result.run.used ≡ 0) }
 {
     let mut place = Place { run, how: GOING };
-    let mut turns = u64::MAX;
-    while 0 < turns {
-        turns -= 1;
+    for _ in 0..u64::MAX {
         if place.run.used == 0 {
             return place;
         }
         let run = place.run;
-        place = send(out, run);
+        place = send(rt, output, out, run);
         if place.how != GOING {
             return place;
         }
@@ -109,13 +122,19 @@ fn send_all(out: &[u8], run: Run) -> Place
 }
 
 // Lists what waits. Where the output is full, it is written.
-fn list(buf: &mut [u8], out: &mut [u8], run: Run) -> Place
+fn list<W: Write>(
+    rt: &impl Eprint,
+    output: &mut W,
+    buf: &mut [u8],
+    out: &mut [u8],
+    run: Run,
+) -> Place
     requires { Reached buf.old out.old run }
     ensures { Reached buf.new out.new result.run × (result.how ≤ 1) }
 {
     let next = lines::step(buf, out, run);
     if next.more {
-        return send_all(out, next);
+        return send_all(rt, output, out, next);
     }
     Place {
         run: next,
@@ -124,29 +143,40 @@ fn list(buf: &mut [u8], out: &mut [u8], run: Run) -> Place
 }
 
 // Lists the lines that are left; where none is, one read.
-fn turn(buf: &mut [u8], out: &mut [u8], run: Run) -> Place
+fn turn<R: Read, W: Write>(
+    rt: &impl Eprint,
+    input: &mut R,
+    output: &mut W,
+    buf: &mut [u8],
+    out: &mut [u8],
+    run: Run,
+) -> Place
     requires in_bounds { 65 < length buf.old }
     requires reached { Reached buf.old out.old run }
     ensures { Reached buf.new out.new result.run × (2 ≤ result.how → result.run.more ≡ false) }
 {
     if run.more {
-        return list(buf, out, run);
+        return list(rt, output, buf, out, run);
     }
-    fill(buf, run)
+    fill(rt, input, buf, run)
 }
 
 // All turns, until the input ends or a read or a write fails.
-fn read_all(buf: &mut [u8], out: &mut [u8]) -> Place
+fn read_all<R: Read, W: Write>(
+    rt: &impl Eprint,
+    input: &mut R,
+    output: &mut W,
+    buf: &mut [u8],
+    out: &mut [u8],
+) -> Place
     requires { 65 < length buf.old }
     ensures { Reached buf.new out.new result.run × (2 ≤ result.how → result.run.more ≡ false) }
 {
     let run = lines::start(Form::Plain);
     let mut place = Place { run, how: GOING };
-    let mut turns = u64::MAX;
-    while 0 < turns {
-        turns -= 1;
+    for _ in 0..u64::MAX {
         let run = place.run;
-        place = turn(buf, out, run);
+        place = turn(rt, input, output, buf, out, run);
         if place.how != GOING {
             break;
         }
@@ -169,32 +199,38 @@ fn because(sent: Place, how: u8) -> Place
 }
 
 // After the end of the input: what waits, and the last line where there is one.
-fn close(buf: &[u8], out: &mut [u8], run: Run) -> Place
+fn close<W: Write>(rt: &impl Eprint, output: &mut W, buf: &[u8], out: &mut [u8], run: Run) -> Place
     requires in_bounds { (128 ≤ length out.old) × (run.more ≡ false) }
     requires reached { Reached buf.now out.old run }
     ensures { Stops buf.now out.new result.run result.how }
 {
-    let freed = send_all(out, run);
+    let freed = send_all(rt, output, out, run);
     if freed.how != GOING {
         return freed;
     }
     let before = freed.run;
     let last = lines::finish(buf, out, before);
-    because(send_all(out, last), ENDED)
+    because(send_all(rt, output, out, last), ENDED)
 }
 
 // The whole run. Where a read failed, what is answered is written all the same; where a write failed, nothing more is.
-fn list_all(buf: &mut [u8], out: &mut [u8]) -> Place
+fn list_all<R: Read, W: Write>(
+    rt: &impl Eprint,
+    input: &mut R,
+    output: &mut W,
+    buf: &mut [u8],
+    out: &mut [u8],
+) -> Place
     requires { (65 < length buf.old) × (128 ≤ length out.old) }
     ensures { Stops buf.new out.new result.run result.how }
 {
-    let end = read_all(buf, out);
+    let end = read_all(rt, input, output, buf, out);
     let run = end.run;
     if end.how == ENDED {
-        return close(buf, out, run);
+        return close(rt, output, buf, out, run);
     }
     if end.how == UNREAD {
-        return because(send_all(out, run), UNREAD);
+        return because(send_all(rt, output, out, run), UNREAD);
     }
     Place {
         run,
@@ -202,10 +238,21 @@ fn list_all(buf: &mut [u8], out: &mut [u8]) -> Place
     }
 }
 
-fn main() {
-    let mut input = io::large_buffer();
-    let buf: &mut [u8] = &mut input;
-    let mut output = io::large_buffer();
-    let out: &mut [u8] = &mut output;
-    list_all(buf, out);
+// Only a run that came to the input's end has succeeded.
+fn status_of(how: u8) -> ExitCode
+    ensures { exit_status result ≡ cond (eqb how 2) 0 1 }
+{
+    if how == ENDED {
+        return ExitCode::SUCCESS;
+    }
+    ExitCode::FAILURE
+}
+
+fn main(rt: HostRuntime) -> ExitCode {
+    let mut input = rt.stdin();
+    let mut output = rt.stdout();
+    let mut read = [0u8; 65_536];
+    let mut written = [0u8; 65_536];
+    let end = list_all(&rt, &mut input, &mut output, &mut read, &mut written);
+    status_of(end.how)
 }

@@ -1,7 +1,7 @@
 -- The digits of `io::decimal` are the numeral of the listing, and stand behind a space. Assumes nothing.
-use mathlib.Core.Path.{◌≡◌, refl, sym}
+use mathlib.Core.Path.{◌≡◌, refl}
 use mathlib.Core.Bool.{Bool, true, false}
-use mathlib.Core.List.{List, [], ◌∷◌, ◌++◌, append-nil}
+use mathlib.Core.List.{List, ◌∷◌, ◌++◌}
 use Prim.Native.Nat.{ℕ, zero, suc, ◌+◌, ◌-◌, ◌*◌, ◌/◌, ◌%◌, ◌^◌, ◌≤◌, ◌<◌}
 use native.Mathlib.Nat.{pow-succ', pow-le-pow_right, zero-lt-suc}
 use native.Mathlib.Numerals.{add-one}
@@ -9,7 +9,7 @@ use native.Mathlib.Omega.{arith}
 use borrow.Author.Tests.{lt-ltb, le-ltb, leb-true, leb-false}
 use lib.Dec.{leb}
 use lib.ListN.{length, take}
-use lib.Seq.{length-take-le, take-length, take_at}
+use lib.Seq.{length-take-le, take_at}
 use Rattle.whole.proofs.Powers.{ten_pos}
 use Rattle.io.specs.Digits.{hex_digit_ascii, last_digits, IsDigitCount}
 use Rattle.listing.specs.Numerals.{numeral, decimal}
@@ -52,19 +52,13 @@ at_most k n h few = at_most_by k n (leb k 20) refl h few
 
 -- ---- a first byte, and others that were copied behind it
 
-pub within : (k : ℕ) (others : List ℕ) → k ≤ length others → k + 1 ≤ suc (length (others ++ []))
-within k others h = rw (append-nil others) (omega arith)
-
-pub as_long : (k b : ℕ) (others : List ℕ) → k ≤ length others → k + 1 ≡ length (take (k + 1) (b ∷ (others ++ [])))
-as_long k b others h = sym (length-take-le (k + 1) (b ∷ (others ++ [])) (within k others h))
-
 -- behind a space the digits come first in what was copied
-pub text_is : (k n : ℕ) (buffer rest others : List ℕ) → IsDigitCount 10 1 n k → k ≤ 20 → k ≤ length buffer → take k buffer ≡ last_digits 10 k n
-    → others ≡ take (length (take k buffer)) (take k buffer) ++ rest → take (k + 1) (32 ∷ (others ++ [])) ≡ count_text n
+pub text_is : (k n : ℕ) (buffer part rest : List ℕ) → IsDigitCount 10 1 n k → k ≤ 20 → k ≤ length buffer → take k buffer ≡ last_digits 10 k n
+    → part ≡ take k buffer → take (k + 1) (32 ∷ (part ++ rest)) ≡ count_text n
 unfolding count_text
-text_is k n buffer rest others few small le is has =
+text_is k n buffer part rest few small le is has =
     let first = take_at (take k buffer) rest k (length-take-le k buffer le) in
-    rw (add-one, append-nil others, has, take-length (take k buffer), first, is, decimal_is k n few small)
+    rw (add-one, has, first, is, decimal_is k n few small)
 
 -- what was put is that text
 pub put_is : (at n r : ℕ) (t l last : List ℕ) → t ≡ count_text n → (r ≡ put_end at t l) × (last ≡ put_leaves at t l)

@@ -1,5 +1,7 @@
 // Words and numbers put together in a buffer, for the programs to write out. Each call that puts something answers where the next
 // byte goes; what has no room is not put at all.
+#![tactic(auto)]
+
 ghost use Rattle.std.specs.Prelude.{◌≡◌, take};
 ghost use Rattle.say.specs.Put.{put_end, put_leaves, count_text};
 
@@ -23,8 +25,9 @@ pub fn put(out: &mut [u8], at: usize, text: &[u8]) -> usize
     if out.len() - at < text.len() {
         return at;
     }
-    bytes::copy(text, &mut out[at..]);
-    at + text.len()
+    let end = at + text.len();
+    out[at..end].copy_from_slice(text);
+    end
 }
 
 // A space and a number.
@@ -34,6 +37,6 @@ pub fn put_count(out: &mut [u8], at: usize, n: u64) -> usize
     let mut digits = [0u8; 20];
     let k = io::decimal(n, &mut digits);
     let mut text = [b' '; 21];
-    bytes::copy(&digits[..k], &mut text[1..]);
+    text[1..k + 1].copy_from_slice(&digits[..k]);
     put(out, at, &text[..k + 1])
 }
