@@ -12,17 +12,14 @@ use mir.Facts.{to_z-of_z, to_z_pos}
 use Rattle.whole.proofs.Small.{fits}
 use Rattle.block.specs.Bare.{bare_tile}
 use Rattle.block.proofs.Bounds.{tile_divided, bare_small}
-use Rattle.block.proofs.bare_tile.Statement.{statement}
-use Rattle.block.proofs.bare_tile.Tie as tie
+use Rattle.block.proofs.bare_tile.Goals as goal
+use Rattle.block.proofs.bare_tile.Goals.{Start}
 
-divided : (c : tie.Start) → to_z w64 ((160 * c.args.k + 19) / 18) -ℤ pos 85 ≡ bare_tile c.args.k
+divided : (c : Start) → to_z w64 ((160 * c.args.k + 19) / 18) -ℤ pos 85 ≡ bare_tile c.args.k
 divided c = let h = c.requires in rw (to_z_pos w64 {n = (160 * c.args.k + 19) / 18} (omega arith)) (tile_divided c.args.k c.requires)
 
-sub-result : tie.Need-overflow-sub-result
-sub-result c = subst (SFits w64) (sym (divided c)) (fits (bare_small c.args.k c.requires) (lit≤ tt))
+pub overflow_sub-result : goal.overflow_sub-result
+overflow_sub-result c = subst (SFits w64) (sym (divided c)) (fits (bare_small c.args.k c.requires) (lit≤ tt))
 
-returns : tie.Need-returns
-returns c = to_z-of_z (sub-result c) ∙ divided c
-
-pub bare_tile_spec : {M : Type 1} → statement M
-bare_tile_spec = tie.close (tie.spec (λ c. search rules) (λ c. search rules) (λ c. search rules) sub-result returns)
+pub returns : goal.returns
+returns c = to_z-of_z (overflow_sub-result c) ∙ divided c

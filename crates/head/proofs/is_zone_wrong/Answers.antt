@@ -6,8 +6,7 @@ use Prim.Native.Nat.{ℕ, ◌≤◌}
 use borrow.Author.Tests.{eq-eqb, ne_eqb, le-ltb}
 use lib.Dec.{eqb, ltb}
 use Rattle.head.specs.Head.{zone_wrong}
-use Rattle.head.proofs.is_zone_wrong.Statement.{statement}
-use Rattle.head.proofs.is_zone_wrong.Tie as tie
+use Rattle.head.proofs.is_zone_wrong.Goals as goal
 
 -- by the test of the count
 zero : (value : ℕ) (t : Bool) → value ≡ 0 → not t ≡ cond t false (cond (eqb value 0) true (ltb 60 value))
@@ -18,13 +17,10 @@ right : (value : ℕ) (t : Bool) → (value ≡ 0 → ⊥) → value ≤ 60 → 
 right value true n h = refl
 right value false n h = rw (ne_eqb value 0 n, le-ltb 60 value h)
 
-returns : tie.Need-returns
+pub returns-then-lead-eq0 : goal.returns-then-lead-eq0
 unfolding zone_wrong
-returns c = zero _ (eqb c.before.before.before.args.lead.count 0) c.before.if1.true
+returns-then-lead-eq0 c = zero _ (eqb c.args.lead.count 0) c.if-lead-eq0.true
 
-returns-2 : tie.Need-returns-2
+pub returns : goal.returns
 unfolding zone_wrong
-returns-2 c = let s = c.before.before in right _ (eqb s.args.lead.count 0) c.if1.false s.requires
-
-pub is_zone_wrong_spec : {M : Type 1} → statement M
-is_zone_wrong_spec = tie.close (tie.spec returns returns-2)
+returns c = right _ (eqb c.args.lead.count 0) c.if-lead-eq0.false c.requires

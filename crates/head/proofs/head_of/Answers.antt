@@ -24,8 +24,8 @@ use Rattle.runs.specs.declared.ZoneLead.TheVariants.{Led, Past}
 use Rattle.words.specs.Bytes.{has_high}
 use Rattle.runs.specs.Runs.{value_from, value_of, leading_digits, lead_of, zone_lead}
 use Rattle.head.specs.Head.{letter_in, is_inv, zone_wrong, head_of}
-use Rattle.head.proofs.head_of.Statement.{statement}
-use Rattle.head.proofs.head_of.Tie as tie
+use Rattle.head.proofs.head_of.Goals as goal
+use Rattle.head.proofs.head_of.Goals.{After-capital-band, After-is_band, After-is_zone_wrong, After-struct_known-1, Else-has_high, Else-is_inv, Else-is_zone_wrong, In-Led}
 
 abbrev has : List ℕ → Bool
 has s = is_in (bands_of (pos (lead_of s).value)) (letter_in s (lead_of s).count)
@@ -73,7 +73,6 @@ module _ (s : List ℕ) (plain : has_high s ≡ false) where
           start z b n ez eb h en = rw (plain, inv, right, le-ltb 2 _ few, lt-leb _ _ more, ez, eb, en) (sym (answered _ _ _ _ true h))
 
 -- ---- the digits that lead
-
 -- no digits have the value 0
 no_value : (ds : List ℕ) → length ds ≡ 0 → value_of ds ≡ 0
 unfolding value_from
@@ -108,106 +107,72 @@ unfolding zone_lead
 led s x h = led_by s x (ltb 60 (lead_of s).value) refl h
 
 -- ---- step by step
-
-returns : tie.Need-returns
+pub returns-then-has_high : goal.returns-then-has_high
 unfolding head_of
-returns c = let k = sym c.before.has-high.ensures ∙ c.if1.true in rw k
+returns-then-has_high c = let k = sym c.has_high.ensures ∙ c.if-has_high.true in rw k
 
-plain : (c : tie.Else1) → has_high c.before.before.before.args.s.now ≡ false
-plain c = sym c.before.has-high.ensures ∙ c.if1.false
+plain : (c : Else-has_high) → has_high c.args.s.now ≡ false
+plain c = sym c.has_high.ensures ∙ c.if-has_high.false
 
-returns-2 : tie.Need-returns-2
-returns-2 c = let i = c.before in two _ (plain i.before) (sym i.is-inv.ensures ∙ c.if2.true)
+pub returns-then-is_inv : goal.returns-then-is_inv
+returns-then-is_inv c = two _ (plain (goal.at.returns-then-is_inv c).Else-has_high) (sym c.is_inv.ensures ∙ c.if-is_inv.true)
 
-no_inv : (c : tie.Else2) → is_inv c.before.before.before.before.before.args.s.now ≡ false
-no_inv c = sym c.before.is-inv.ensures ∙ c.if2.false
+no_inv : (c : Else-is_inv) → is_inv c.args.s.now ≡ false
+no_inv c = sym c.is_inv.ensures ∙ c.if-is_inv.false
 
-returns-3 : tie.Need-returns-3
-returns-3 c =
-    let z = c.before.before in
-    let i = z.before in
-    three _ (plain i.before.before) (no_inv i) (past _ (sym z.zone-lead.ensures ∙ c.enum_told.given.1))
+pub returns-in_default : goal.returns-in_default
+returns-in_default c =
+    three _ (plain (goal.at.returns-in_default c).Else-has_high) (no_inv (goal.at.returns-in_default c).Else-is_inv) (past _ (sym c.zone_lead.ensures ∙ c.in_default.is))
 
 -- the digits are those of the text
-lead : (c : tie.After-lead) → let s = c.before.before.before.before.before.before.before.before in (c.lead.given.0.0 ≡ lead_of s.args.s.now) × ((lead_of s.args.s.now).value ≤ 60)
-lead c = led _ _ (sym c.before.before.zone-lead.ensures ∙ c.lead.given.1)
+lead : (c : In-Led) → (c.in-Led.lead ≡ lead_of c.args.s.now) × ((lead_of c.args.s.now).value ≤ 60)
+lead c = led _ _ (sym c.zone_lead.ensures ∙ c.in-Led.is)
 
-is-zone-wrong-requires : tie.Need-is-zone-wrong-requires
-is-zone-wrong-requires c κs = let l = lead c.before in rw l.0 l.1
+pub is_zone_wrong-requires : goal.is_zone_wrong-requires
+is_zone_wrong-requires c = let l = lead c in rw l.0 l.1
 
-wrong : (c : tie.After-is-zone-wrong) → let s = c.before.before.before.before.before.before.before.before.before.before in c.is-zone-wrong.result ≡ zone_wrong (lead_of s.args.s.now)
-wrong c = rw (lead c.before.before).0 at c.is-zone-wrong.ensures
+wrong : (c : After-is_zone_wrong) → c.is_zone_wrong.result ≡ zone_wrong (lead_of c.args.s.now)
+wrong c = rw (lead (goal.at.After-is_zone_wrong c).In-Led).0 at c.is_zone_wrong.ensures
 
-returns-4 : tie.Need-returns-4
-returns-4 c =
-    let w = c.before in
-    let i = w.before.before.before.before.before in
-    three _ (plain i.before.before) (no_inv i) (sym (wrong w) ∙ c.if3.true)
+pub returns-then-is_zone_wrong : goal.returns-then-is_zone_wrong
+returns-then-is_zone_wrong c =
+    three _ (plain (goal.at.returns-then-is_zone_wrong c).Else-has_high) (no_inv (goal.at.returns-then-is_zone_wrong c).Else-is_inv) (sym (wrong (goal.at.returns-then-is_zone_wrong c).After-is_zone_wrong) ∙ c.if-is_zone_wrong.true)
 
-right : (c : tie.Else3) → let s = c.before.before.before.before.before.before.before.before.before.before.before in zone_wrong (lead_of s.args.s.now) ≡ false
-right c = sym (wrong c.before) ∙ c.if3.false
+right : (c : Else-is_zone_wrong) → zone_wrong (lead_of c.args.s.now) ≡ false
+right c = sym (wrong (goal.at.Else-is_zone_wrong c).After-is_zone_wrong) ∙ c.if-is_zone_wrong.false
 
-returns-5 : tie.Need-returns-5
-returns-5 c =
-    let r = c.before in
-    let l = r.before.before.before in
-    let i = l.before.before.before in
-    four _ (plain i.before.before) (no_inv i) (right r) (rw (lead l).0 at c.if4.true)
+pub returns-then-count-gt2 : goal.returns-then-count-gt2
+returns-then-count-gt2 c =
+    four _ (plain (goal.at.returns-then-count-gt2 c).Else-has_high) (no_inv (goal.at.returns-then-count-gt2 c).Else-is_inv) (right (goal.at.returns-then-count-gt2 c).Else-is_zone_wrong) (rw (lead (goal.at.returns-then-count-gt2 c).In-Led).0 at c.if-count-gt2.true)
 
-returns-6 : tie.Need-returns-6
-returns-6 c =
-    let f = c.before in
-    let r = f.before in
-    let l = r.before.before.before in
-    let i = l.before.before.before in
-    five _ (plain i.before.before) (no_inv i) (right r) (rw (lead l).0 at f.if4.false) (rw (lead l).0 at c.if5.true)
+pub returns-then-s-count : goal.returns-then-s-count
+returns-then-s-count c =
+    five _ (plain (goal.at.returns-then-s-count c).Else-has_high) (no_inv (goal.at.returns-then-s-count c).Else-is_inv) (right (goal.at.returns-then-s-count c).Else-is_zone_wrong) (rw (lead (goal.at.returns-then-s-count c).In-Led).0 at c.if-count-gt2.false) (rw (lead (goal.at.returns-then-s-count c).In-Led).0 at c.if-s-count.true)
 
-cast-zone : tie.Need-overflow-cast-zone
-cast-zone c =
-    let l = lead c.before.before.before.before.before.before in
+pub overflow_cast-zone : goal.overflow_cast-zone
+overflow_cast-zone c =
+    let l = lead (goal.at.overflow_cast-zone c).In-Led in
     rw l.0 (record { sfits = omega (arith, l.1) })
 
 -- the band, and whether the zone has it, of the zone and the letter as the text has them
-zone : (c : tie.After-struct-known) → let l = c.before.before.before.before.before.before in let s = l.before.before.before.before.before.before.before.before in to_z w64 l.lead.given.0.0.value ≡ pos (lead_of s.args.s.now).value
+zone : (c : After-struct_known-1) → to_z w64 c.in-Led.lead.value ≡ pos (lead_of c.args.s.now).value
 zone c =
-    let l = lead c.before.before.before.before.before.before in
+    let l = lead (goal.at.After-struct_known-1 c).In-Led in
     rw l.0 (to_z_pos w64 (omega (arith, l.1)))
 
-band : (c : tie.After-capital) → let s = c.before.before.before.before.before.before.before.before.before.before.before.before.before.before.before.before in c.capital.result ≡ letter_in s.args.s.now (lead_of s.args.s.now).count
-band c = rw (lead c.before.before.before.before.before.before.before.before).0 at c.capital.ensures
+band : (c : After-capital-band) → c.capital-band.result ≡ letter_in c.args.s.now (lead_of c.args.s.now).count
+band c = rw (lead (goal.at.After-capital-band c).In-Led).0 at c.capital-band.ensures
 
-has_is : (c : tie.After-is-band) → let s = c.before.before.before.before.before.before.before.before.before.before.before.before.before.before.before.before.before in c.is_band.result ≡ has s.args.s.now
+has_is : (c : After-is_band) → c.is_band.result ≡ has c.args.s.now
 has_is c =
-    let a = c.before in
-    rw (zone a.before.before, band a) at c.is_band.ensures
+    rw (zone (goal.at.After-is_band c).After-struct_known-1, band (goal.at.After-is_band c).After-capital-band) at c.is_band.ensures
 
-returns-7 : tie.Need-returns-7
-returns-7 c =
-    let p = c.before in
-    let m = p.before.before.before.before in
-    let f = m.before in
-    let r = f.before in
-    let l = r.before.before.before in
-    let i = l.before.before.before in
-    six _ (plain i.before.before) (no_inv i) (right r) (rw (lead l).0 at f.if4.false) (rw (lead l).0 at m.if5.false)
-    (sym (has_is p) ∙ not-true _ c.if6.true)
+pub returns-then-not-is_band : goal.returns-then-not-is_band
+returns-then-not-is_band c =
+    six _ (plain (goal.at.returns-then-not-is_band c).Else-has_high) (no_inv (goal.at.returns-then-not-is_band c).Else-is_inv) (right (goal.at.returns-then-not-is_band c).Else-is_zone_wrong) (rw (lead (goal.at.returns-then-not-is_band c).In-Led).0 at c.if-count-gt2.false) (rw (lead (goal.at.returns-then-not-is_band c).In-Led).0 at c.if-s-count.false)
+    (sym (has_is (goal.at.returns-then-not-is_band c).After-is_band) ∙ c.if-not-is_band.true)
 
-returns-8 : tie.Need-returns-8
-returns-8 c =
-    let p = c.before in
-    let a = p.before in
-    let m = a.before.before.before in
-    let f = m.before in
-    let r = f.before in
-    let l = r.before.before.before in
-    let i = l.before.before.before in
-    start _ (plain i.before.before) (no_inv i) (right r) (rw (lead l).0 at f.if4.false) (rw (lead l).0 at m.if5.false)
-    _ _ _ (zone a.before.before) (band a) (sym (has_is p) ∙ not-false _ c.if6.false) (rw (lead l).0)
-
-pub head_of_spec : {M : Type 1} → statement M
-head_of_spec =
-    tie.close
-    (tie.spec
-    (λ c κs. search rules) returns (λ c κs. search rules) returns-2 (λ c κs. search rules) (λ c. search rules)
-    (λ c. search rules) returns-3 is-zone-wrong-requires returns-4 returns-5 returns-6 cast-zone (λ c. search rules)
-    (λ c κs. search rules) (λ c κs. search rules) returns-7 (λ c. search rules) returns-8)
+pub returns : goal.returns
+returns c =
+    start _ (plain (goal.at.returns c).Else-has_high) (no_inv (goal.at.returns c).Else-is_inv) (right (goal.at.returns c).Else-is_zone_wrong) (rw (lead (goal.at.returns c).In-Led).0 at c.if-count-gt2.false) (rw (lead (goal.at.returns c).In-Led).0 at c.if-s-count.false)
+    _ _ _ (zone (goal.at.returns c).After-struct_known-1) (band (goal.at.returns c).After-capital-band) (sym (has_is (goal.at.returns c).After-is_band) ∙ c.if-not-is_band.false) (rw (lead (goal.at.returns c).In-Led).0)
