@@ -11,26 +11,23 @@ use mir.Facts.{to_z-of_z, to_z_pos}
 use Rattle.whole.proofs.Parts.{up, dn}
 use Rattle.whole.proofs.Signed.{less_fits}
 use Rattle.composer.specs.Compose.{row_of_tile}
-use Rattle.composer.proofs.row_of.Statement.{statement}
-use Rattle.composer.proofs.row_of.Tie as tie
+use Rattle.composer.proofs.row_of.Goals as goal
+use Rattle.composer.proofs.row_of.Goals.{Start}
 
-tile : (c : tie.Start) → to_z w64 c.args.tile ≡ pos c.args.tile
+tile : (c : Start) → to_z w64 c.args.tile ≡ pos c.args.tile
 tile c = let h = c.requires in to_z_pos w64 (omega arith)
 
-row_fits : (c : tie.Start) → SFits w64 (pos c.args.tile -ℤ pos 100)
+row_fits : (c : Start) → SFits w64 (pos c.args.tile -ℤ pos 100)
 unfolding up dn
 row_fits c = let h = c.requires in less_fits (pos c.args.tile) 100 (record { sfits = omega arith }) (omega arith) (lit≤ tt)
 
-returns : tie.Need-returns
+pub returns-then-north : goal.returns-then-north
 unfolding row_of_tile
-returns c = rw (tile c.before, c.if1.true)
+returns-then-north c = rw (tile (goal.at.returns-then-north c).Start, c.if-north.true)
 
-sub-result : tie.Need-overflow-sub-result
-sub-result c = rw (tile c.before) (row_fits c.before)
+pub overflow_sub-result : goal.overflow_sub-result
+overflow_sub-result c = rw (tile (goal.at.overflow_sub-result c).Start) (row_fits (goal.at.overflow_sub-result c).Start)
 
-returns-2 : tie.Need-returns-2
+pub returns : goal.returns
 unfolding row_of_tile
-returns-2 c = rw (tile c.before, to_z-of_z (row_fits c.before), c.if1.false)
-
-pub row_of_spec : {M : Type 1} → statement M
-row_of_spec = tie.close (tie.spec (λ c. search rules) returns (λ c. search rules) sub-result returns-2)
+returns c = rw (tile (goal.at.returns c).Start, to_z-of_z (row_fits (goal.at.returns c).Start), c.if-north.false)
