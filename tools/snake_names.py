@@ -17,7 +17,7 @@ DECL = re.compile(r'^\s*(?:(?:pattern|unfoldable|abbrev|pub|axiom)\s+)*([^\s(){}
 USE = re.compile(r'^(?:ghost )?use\s+([^\s{;]+?)(?:\.\{([^}]*)\}|\s+as\s+(\S+?))?;?\s*$')
 GENERATED = re.compile(r'\.(?:Tie|Goals|Given|Statement|Reads|Met|Lts)$')
 # Types, which are in camel case.
-TYPES = {"At-place": "AtPlace", "Unit-of": "UnitOf"}
+TYPES = {"At-place": "AtPlace", "So-far": "SoFar", "Unit-of": "UnitOf"}
 # The definitions, as they will be spelled: a lemma that would have the name of one ends in `_lem`.
 DEFINED = set()
 

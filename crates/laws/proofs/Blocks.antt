@@ -75,7 +75,7 @@ module _ (zone : ℤ) (band k column row c l : ℕ) (t : Tiles) (b : place_of (b
         rw (← q)
         (record {
           inside = rw (utm_columns_lem zone band z.grid).0 (utm_inside zone band k c found.row z b r.0);
-          column_is = letter_back (columns_of zone band) column c is-column;
+          column_is = letter_back (columns_of zone band) column c is_column;
           row_is = rw z.test (rw (s, row_back found.row h.0, r.1) (rw s at (place_holds (rows_of zone (north_band band)) row l is_row)));
         })
     on_row_lem Nothing e x = clash (cc)
@@ -93,8 +93,8 @@ module _ (zone : ℤ) (band k column row c l : ℕ) (t : Tiles) (b : place_of (b
       let q : record { easting = first_tile (columns_of zone band) + c; northing = first_tile (rows_of zone (north_band band)) + l } ≡ t = cc in
       rw (← q)
       (record {
-        inside = ups_inside zone band _ _ z (in_half zone band k column row c l z.grid b is-column is_row);
-        column_is = letter_back (columns_of zone band) column c is-column;
+        inside = ups_inside zone band _ _ z (in_half zone band k column row c l z.grid b is_column is_row);
+        column_is = letter_back (columns_of zone band) column c is_column;
         row_is = rw z.test (letter_back (rows_of zone (north_band band)) row l is_row);
       })
 

@@ -16,11 +16,11 @@ use Rattle.runs.proofs.digits_of.Goals.{Else-not-all_digits}
 
 pub returns-then-not-all_digits : goal.returns-then-not-all_digits
 unfolding digits_of
-returns-then-not-all_digits c = rw (sym c.all_digits.ensures ∙ not-true _ c.if-not-all_digits.true)
+returns-then-not-all_digits c = rw (sym c.all_digits.ensures ∙ c.if-not-all_digits.true)
 
 -- all are digits
 digits : (c : Else-not-all_digits) → all_digits c.args.s.now ≡ true
-digits c = sym c.all_digits.ensures ∙ not-false _ c.if-not-all_digits.false
+digits c = sym c.all_digits.ensures ∙ c.if-not-all_digits.false
 
 pub returns-then-n-eq1 : goal.returns-then-n-eq1
 unfolding digits_of

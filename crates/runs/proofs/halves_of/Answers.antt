@@ -16,11 +16,8 @@ use Rattle.whole.proofs.Powers.{ten_le}
 use Rattle.words.specs.Bytes.{all_digits}
 use Rattle.runs.specs.Runs.{value_from, value_of}
 use Rattle.words.proofs.Laws.{digit_range, digit_at}
+use Rattle.runs.proofs.halves_of.Invariants.{SoFar}
 use Rattle.runs.proofs.halves_of.Goals as goal
-
--- the number x of the first i digits, and the digits from there on
-abbrev SoFar : List ℕ → ℕ → ℕ → Type 0
-SoFar s i x = (x < 10 ^ i) × (value_of s ≡ value_from x (drop i s))
 
 module _ (s : List ℕ) (i x : ℕ) (far : SoFar s i x) where
   turn : all_digits s ≡ true → i < length s → SoFar s (i + 1) (x * 10 + (get_or s i 0 - 48))

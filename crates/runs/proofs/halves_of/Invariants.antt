@@ -18,6 +18,10 @@ use Rattle.runs.specs.Runs.{value_from, value_of}
 use Rattle.words.proofs.Laws.{digit_range, digit_at}
 use Rattle.runs.proofs.halves_of.Given as goal
 
+-- the number x of the first i digits, and the digits from there on
+abbrev pub SoFar : List ℕ → ℕ → ℕ → Type 0
+SoFar s i x = (x < 10 ^ i) × (value_of s ≡ value_from x (drop i s))
+
 abbrev pub invariant-loop-i : goal.invariant-loop-i
 invariant-loop-i l = (l.i ≤ length l.a) × SoFar l.a l.i l.easting × SoFar l.b l.i l.northing
 

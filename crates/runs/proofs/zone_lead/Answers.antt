@@ -12,12 +12,9 @@ use Rattle.runs.specs.declared.Lead.{Lead}
 use Rattle.runs.specs.declared.ZoneLead.TheVariants.{Led, Past}
 use Rattle.runs.specs.Runs.{value_from, leading_digits, lead_of, zone_lead}
 use Rattle.runs.proofs.Laws.{grows, lead_end, lead_stop, lead_more}
+use Rattle.runs.proofs.zone_lead.Invariants.{after}
 use Rattle.runs.proofs.zone_lead.Goals as goal
 use Rattle.runs.proofs.zone_lead.Goals.{After-then_digit-next}
-
--- n digits before these, of the value v
-unfoldable after : ℕ → ℕ → List ℕ → Lead
-after n v ds = record { count = n + length ds; value = value_from v ds }
 
 -- no digit is left
 done : (s : List ℕ) (n v : ℕ) (ds : List ℕ) → v ≤ 60 → ds ≡ [] → lead_of s ≡ after n v ds → Led (record { count = n; value = v }) ≡ zone_lead s
@@ -41,25 +38,23 @@ loop-count-init c = (search rules, rw (zero-add))
 pub returns-then-not-is_digit : goal.returns-then-not-is_digit
 returns-then-not-is_digit c =
     let i = c.loop-count.invariant in
-    done _ _ _ _ i.0 (lead_stop _ _ c.loop-count-test.true (sym c.is_digit.ensures ∙ not-true _ c.if-not-is_digit.true)) i.1
+    done _ _ _ _ i.0 (lead_stop _ _ c.loop-count-test.true (sym c.is_digit.ensures ∙ c.if-not-is_digit.true)) i.1
 
 pub then_digit-next-requires : goal.then_digit-next-requires
-then_digit-next-requires c = (search rules, sym c.is_digit.ensures ∙ not-false _ c.if-not-is_digit.false)
+then_digit-next-requires c = (search rules, sym c.is_digit.ensures ∙ c.if-not-is_digit.false)
 
 -- the digits from the next place on, after the value that the next digit makes
-step : (c : After-then_digit-next invariant-loop decreases-loop) → let l = c.before.before.before.before.before in let s = l.before.before in
-    lead_of s.args.s.now ≡ after (l.loop-count.count + 1) c.then_digit-next.result (leading_digits (drop (l.loop-count.count + 1) s.args.s.now))
+step : (c : After-then_digit-next) →
+    lead_of c.args.s.now ≡ after (c.loop-count.count + 1) c.then_digit-next.result (leading_digits (drop (c.loop-count.count + 1) c.args.s.now))
 step c =
-    let e = c.before in
-    let t = e.before.before.before in
-    let d = sym e.before.is_digit.ensures ∙ not-false _ e.if-not-is_digit.false in
-    rw c.then_digit-next.ensures (t.before.loop-count.invariant.1 ∙ turn _ _ _ _ _ (lead_more _ _ t.loop-count-test.true d))
+    let d = sym c.is_digit.ensures ∙ c.if-not-is_digit.false in
+    rw c.then_digit-next.ensures (c.loop-count.invariant.1 ∙ turn _ _ _ _ _ (lead_more _ _ c.loop-count-test.true d))
 
 pub returns-then-next-gt60 : goal.returns-then-next-gt60
-returns-then-next-gt60 c = large _ _ _ _ c.if-next-gt60.true (step c.before)
+returns-then-next-gt60 c = large _ _ _ _ c.if-next-gt60.true (step (goal.at.returns-then-next-gt60 c).After-then_digit-next)
 
 pub loop-count-preserved : goal.loop-count-preserved
-loop-count-preserved c = (c.if-next-gt60.false, step c.before)
+loop-count-preserved c = (c.if-next-gt60.false, step (goal.at.loop-count-preserved c).After-then_digit-next)
 
 pub returns : goal.returns
 returns c = let i = c.loop-count.invariant in done _ _ _ _ i.0 (lead_end _ _ c.loop-count-test.false) i.1

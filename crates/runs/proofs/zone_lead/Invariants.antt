@@ -14,6 +14,10 @@ use Rattle.runs.specs.Runs.{value_from, leading_digits, lead_of, zone_lead}
 use Rattle.runs.proofs.Laws.{grows, lead_end, lead_stop, lead_more}
 use Rattle.runs.proofs.zone_lead.Given as goal
 
+-- n digits before these, of the value v
+unfoldable pub after : ℕ → ℕ → List ℕ → Lead
+after n v ds = record { count = n + length ds; value = value_from v ds }
+
 abbrev pub invariant-loop-count : goal.invariant-loop-count
 invariant-loop-count l = (l.value ≤ 60) × (lead_of l.s ≡ after l.count l.value (leading_digits (drop l.count l.s)))
 

@@ -1,0 +1,26 @@
+-- `row_letters::first_row` meets its contract: the first tile of each grid's set.
+-- Assumes nothing.
+use mathlib.Core.Path.{◌≡◌, sym, ◌∙◌}
+use borrow.Author.Rules.{rules}
+use mir.Facts.{to_z-of_z}
+use Rattle.letters.specs.Letters.{first_tile}
+use Rattle.bands.specs.Bands.{grid_of}
+use Rattle.row_letters.specs.RowLetters.{rows_of}
+use Rattle.row_letters.proofs.Guesses.{rows_are}
+use Rattle.row_letters.proofs.first_row.Goals as goal
+use Rattle.row_letters.proofs.first_row.Goals.{After-grid_of}
+
+grid : (c : After-grid_of) → c.grid_of.result ≡ grid_of c.args.zone
+grid c = rw (to_z-of_z c.ranges.zone) at c.grid_of.ensures
+
+pub returns-in-Utm : goal.returns-in-Utm
+unfolding rows_of first_tile
+returns-in-Utm c = rw (sym (grid (goal.at.returns-in-Utm c).After-grid_of) ∙ c.in-Utm.is)
+
+pub returns-in-Ups : goal.returns-in-Ups
+unfolding rows_of
+returns-in-Ups c = rw (sym (grid (goal.at.returns-in-Ups c).After-grid_of) ∙ c.in-Ups.is, c.ups_rows.ensures) (rows_are c.args.north).tile
+
+pub returns-in-NoZone : goal.returns-in-NoZone
+unfolding rows_of first_tile
+returns-in-NoZone c = rw (sym (grid (goal.at.returns-in-NoZone c).After-grid_of) ∙ c.in-NoZone.is)
