@@ -1,9 +1,11 @@
 // Writes references and reads each back: every bare zone, and the four corners of every tile, for every band. The gate holds
 // what is printed to the file stdout, which was made from document 01.
-use libc::STDOUT_FILENO;
+#![tactic(auto)]
+
 use position::Position;
 use reader::Answer;
 use say::{front, put, put_count};
+use std::io;
 use writer::Written;
 
 const TILE: u64 = 200_000_000_000;
@@ -41,7 +43,7 @@ fn no_count() -> Count {
 
 // No run counts so far that this comes round to 0.
 fn more(n: u64) -> u64 {
-    std::num::wrapping_add_u64(n, 1)
+    n.wrapping_add(1)
 }
 
 fn more_if(yes: bool, n: u64) -> u64 {
@@ -58,10 +60,8 @@ fn next_sum(sum: u64, byte: u8) -> u64 {
 // A byte's place counts as well as the byte.
 fn summed(text: &[u8], start: u64) -> u64 {
     let mut sum = start;
-    let mut k = 0;
-    while k < text.len() {
-        sum = next_sum(sum, text[k]);
-        k += 1;
+    for byte in text {
+        sum = next_sum(sum, *byte);
     }
     sum
 }
@@ -165,21 +165,16 @@ fn bare_band(zone: u64, band: u8, count: Count) -> Count {
 
 fn bare_bands(zone: u64, letters: &[u8], start: Count) -> Count {
     let mut count = start;
-    let mut k = 0;
-    while k < letters.len() {
-        count = bare_band(zone, letters[k], count);
-        k += 1;
+    for letter in letters {
+        count = bare_band(zone, *letter, count);
     }
     count
 }
 
 fn bare_zones() -> Count {
-    let letters = UTM;
     let mut count = no_count();
-    let mut zone = 1;
-    while zone <= 60 {
-        count = bare_bands(zone, &letters, count);
-        zone += 1;
+    for zone in 1..61 {
+        count = bare_bands(zone, &UTM, count);
     }
     count
 }
@@ -289,10 +284,8 @@ fn band_at(tile: Tile, band: u8, tally: Tally) -> Tally {
 
 fn bands(tile: Tile, letters: &[u8], start: Tally) -> Tally {
     let mut tally = start;
-    let mut k = 0;
-    while k < letters.len() {
-        tally = band_at(tile, letters[k], tally);
-        k += 1;
+    for letter in letters {
+        tally = band_at(tile, *letter, tally);
     }
     tally
 }
@@ -300,8 +293,7 @@ fn bands(tile: Tile, letters: &[u8], start: Tally) -> Tally {
 // The tiles of a column, from a first one to before the end.
 fn rows(first: Tile, end: u64, letters: &[u8], start: Tally) -> Tally {
     let mut tally = start;
-    let mut row = first.row;
-    while row < end {
+    for row in first.row..end {
         let tile = Tile {
             zone: first.zone,
             north: first.north,
@@ -309,7 +301,6 @@ fn rows(first: Tile, end: u64, letters: &[u8], start: Tally) -> Tally {
             row,
         };
         tally = bands(tile, letters, tally);
-        row += 1;
     }
     tally
 }
@@ -337,8 +328,7 @@ fn column(first: Tile, end: u64, letters: &[u8], start: Tally) -> Tally {
 // The columns of a zone or of a pole, from the first to before the end.
 fn columns(zone: i64, north: bool, first: u64, end: u64, letters: &[u8], start: Tally) -> Tally {
     let mut tally = start;
-    let mut at = first;
-    while at < end {
+    for at in first..end {
         let tile = Tile {
             zone,
             north,
@@ -346,18 +336,14 @@ fn columns(zone: i64, north: bool, first: u64, end: u64, letters: &[u8], start: 
             row: first,
         };
         tally = column(tile, end, letters, tally);
-        at += 1;
     }
     tally
 }
 
 fn zones() -> Tally {
-    let letters = UTM;
     let mut tally = no_tally();
-    let mut zone: u64 = 1;
-    while zone <= 60 {
-        tally = columns(zone as i64, true, 1, 9, &letters, tally);
-        zone += 1;
+    for zone in 1..61 {
+        tally = columns(zone, true, 1, 9, &UTM, tally);
     }
     tally
 }
@@ -374,55 +360,55 @@ fn put_named(line: &mut [u8], at: usize, name: &[u8], n: u64) -> usize {
     put_count(line, to, n)
 }
 
-fn written(line: &mut [u8], at: usize) {
+fn written(rt: &impl Print, line: &mut [u8], at: usize) -> io::Result<()> {
     let end = put(line, at, b"\n");
-    io::write_all(STDOUT_FILENO, front(line, end));
+    rt.write_all(front(line, end))
 }
 
 // The line of a count, behind what it begins with.
-fn told(line: &mut [u8], at: usize, count: Count) {
+fn told(rt: &impl Print, line: &mut [u8], at: usize, count: Count) -> io::Result<()> {
     let a = put_named(line, at, b" tried", count.tried);
     let b = put_named(line, a, b" written", count.written);
     let c = put_named(line, b, b" back", count.back);
     let d = put_named(line, c, b" sum", count.sum);
-    written(line, d);
+    written(rt, line, d)
 }
 
-fn told_of(kind: &[u8], p: u64, count: Count) {
+fn told_of(rt: &impl Print, kind: &[u8], p: u64, count: Count) -> io::Result<()> {
     let mut line = [0u8; 128];
     let a = put(&mut line, 0, kind);
     let b = put_named(&mut line, a, b" p", p);
-    told(&mut line, b, count);
+    told(rt, &mut line, b, count)
 }
 
-fn told_bands(kind: &[u8], tally: Tally) {
+fn told_bands(rt: &impl Print, kind: &[u8], tally: Tally) -> io::Result<()> {
     let mut line = [0u8; 128];
     let a = put(&mut line, 0, kind);
     let b = put_named(&mut line, a, b" bands fitting", tally.fitting);
     let c = put_named(&mut line, b, b" R 19", tally.misfits);
     let d = put_named(&mut line, c, b" other", tally.others);
-    written(&mut line, d);
+    written(rt, &mut line, d)
 }
 
-fn told_all(kind: &[u8], tally: Tally) {
-    told_bands(kind, tally);
-    told_of(kind, 0, tally.none);
-    told_of(kind, 1, tally.one);
-    told_of(kind, 5, tally.five);
-    told_of(kind, 10, tally.ten);
-    told_of(kind, 11, tally.eleven);
+fn told_all(rt: &impl Print, kind: &[u8], tally: Tally) -> io::Result<()> {
+    told_bands(rt, kind, tally)?;
+    told_of(rt, kind, 0, tally.none)?;
+    told_of(rt, kind, 1, tally.one)?;
+    told_of(rt, kind, 5, tally.five)?;
+    told_of(rt, kind, 10, tally.ten)?;
+    told_of(rt, kind, 11, tally.eleven)
 }
 
-fn told_bare(kind: &[u8], count: Count) {
+fn told_bare(rt: &impl Print, kind: &[u8], count: Count) -> io::Result<()> {
     let mut line = [0u8; 128];
     let a = put(&mut line, 0, kind);
     let b = put(&mut line, a, b" bare");
-    told(&mut line, b, count);
+    told(rt, &mut line, b, count)
 }
 
-fn main() {
-    told_bare(b"utm", bare_zones());
-    told_bare(b"ups", bare_bands(0, &UPS, no_count()));
-    told_all(b"utm", zones());
-    told_all(b"ups", poles());
+fn main(rt: HostRuntime) -> io::Result<()> {
+    told_bare(&rt, b"utm", bare_zones())?;
+    told_bare(&rt, b"ups", bare_bands(0, &UPS, no_count()))?;
+    told_all(&rt, b"utm", zones())?;
+    told_all(&rt, b"ups", poles())
 }

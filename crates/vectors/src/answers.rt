@@ -102,12 +102,10 @@ pub(crate) fn read(text: &[u8]) -> Said {
 pub(crate) const FILLER: u8 = b'.';
 
 fn is_filler(s: &[u8]) -> bool {
-    let mut k = 0;
-    while k < s.len() {
-        if s[k] != FILLER {
+    for byte in s {
+        if *byte != FILLER {
             return false;
         }
-        k += 1;
     }
     true
 }

@@ -1,57 +1,50 @@
 // The fields of a line, parted by single spaces, and what they spell. Every call takes any bytes; what is missing is empty.
+ghost use Rattle.std.specs.Prelude.{◌≤◌, length};
+
 use crate::pen::beyond;
+
+// Where the first space stands; the length where there is none.
+fn space_of(s: &[u8]) -> usize
+    ensures { result ≤ length s.now }
+{
+    s.iter().position(|b| *b == b' ').unwrap_or(s.len())
+}
 
 // Up to the first space.
 pub(crate) fn head(s: &[u8]) -> &[u8] {
-    let end = bytes::scan::find(s, 0, s.len(), b' ');
-    &s[..end]
+    &s[..space_of(s)]
 }
 
 // Behind the k-th space; empty where there are fewer.
 pub(crate) fn after(s: &[u8], k: usize) -> &[u8] {
-    let mut at = 0;
-    let mut left = k;
-    while 0 < left {
-        let end = bytes::scan::find(s, at, s.len(), b' ');
-        if end == s.len() {
-            return &s[end..];
+    let mut rest = s;
+    for _ in 0..k {
+        let end = space_of(rest);
+        if end == rest.len() {
+            return &rest[end..];
         }
-        at = end + 1;
-        left -= 1;
+        rest = &rest[end + 1..];
     }
-    &s[at..]
+    rest
 }
 
 pub(crate) fn is_same(a: &[u8], b: &[u8]) -> bool {
-    if a.len() != b.len() {
-        return false;
-    }
-    let mut k = 0;
-    while k < a.len() {
-        if a[k] != b[k] {
-            return false;
-        }
-        k += 1;
-    }
-    true
+    a == b
 }
 
 // The place of a word among words that are parted like fields; how many these are where it is none of them.
 pub(crate) fn place_of(word: &[u8], words: &[u8]) -> usize {
-    let mut at = 0;
-    let mut k = 0;
-    while at < words.len() {
-        let end = bytes::scan::find(words, at, words.len(), b' ');
-        if is_same(&words[at..end], word) {
-            break;
+    let mut rest = words;
+    for k in 0..words.len() {
+        if rest.len() == 0 {
+            return k;
         }
-        k += 1;
-        if end == words.len() {
-            break;
+        if is_same(head(rest), word) {
+            return k;
         }
-        at = end + 1;
+        rest = after(rest, 1);
     }
-    k
+    words.len()
 }
 
 // ---- numbers
@@ -76,13 +69,11 @@ pub(crate) fn size_of(s: &[u8]) -> u64 {
         return u64::MAX;
     }
     let mut n = 0;
-    let mut k = 0;
-    while k < s.len() {
-        if !words::is_digit(s[k]) {
+    for byte in s {
+        if !words::is_digit(*byte) {
             return u64::MAX;
         }
-        n = extended(n, s[k]);
-        k += 1;
+        n = extended(n, *byte);
     }
     n
 }
@@ -139,15 +130,13 @@ pub(crate) fn first_number(s: &[u8]) -> i64 {
 
 // The numbers with which a line begins, six at most, and how many they are.
 pub(crate) fn numbers(s: &[u8], found: &mut [i64; 6]) -> usize {
-    let mut k = 0;
-    while k < 6 {
+    for k in 0..6 {
         let Number::Is(z) = number_of(head(after(s, k))) else {
-            break;
+            return k;
         };
         found[k] = z;
-        k += 1;
     }
-    k
+    6
 }
 
 // The byte that a number counts as.

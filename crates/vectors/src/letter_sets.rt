@@ -2,6 +2,7 @@
 use crate::print;
 use bands::Grid;
 use letters::Place;
+use std::io;
 
 #[derive(Clone, Copy)]
 enum Kind {
@@ -22,7 +23,7 @@ struct Set {
 // A tile as a place, by the first tile.
 fn from_first(tile: Place, first: usize) -> Place {
     match tile {
-        Place::At(t) => Place::At(std::num::wrapping_sub_usize(t, first)),
+        Place::At(t) => Place::At(t.wrapping_sub(first)),
         Place::NotInSet => Place::NotInSet,
     }
 }
@@ -98,52 +99,59 @@ fn is_found(set: Set, letter: u8, place: usize) -> bool {
 }
 
 // Of all bytes, those that are found one behind the other.
-fn spell(set: Set) -> usize {
-    let mut n = 0;
-    let mut byte: usize = 0;
-    while byte < 256 {
-        if is_found(set, byte as u8, n) {
-            print::text(&[byte as u8]);
-            n = std::num::wrapping_add_usize(n, 1);
+fn spell(rt: &impl Print, set: Set) -> io::Result<usize> {
+    let mut n: usize = 0;
+    for byte in 0..=u8::MAX {
+        if is_found(set, byte, n) {
+            print::text(rt, &[byte])?;
+            n = n.wrapping_add(1);
         }
-        byte += 1;
     }
-    n
+    Ok(n)
 }
 
-fn tell(set: Set) {
-    print::text(b" ");
-    let n = spell(set);
+fn tell(rt: &impl Print, set: Set) -> io::Result<()> {
+    print::text(rt, b" ")?;
+    let n = spell(rt, set)?;
     if letter_in(set, 0, n) != 0 {
-        print::text(b" and more");
+        print::text(rt, b" and more")?;
     }
-    print::number(n as u64);
-    print::number(first_tile(set) as u64);
+    print::number(rt, n as u64)?;
+    print::number(rt, first_tile(set) as u64)
 }
 
-pub(crate) fn bands(zone: i64) {
-    tell(Set {
-        kind: Kind::Bands,
-        zone,
-        band: 0,
-        north: false,
-    });
+pub(crate) fn bands(rt: &impl Print, zone: i64) -> io::Result<()> {
+    tell(
+        rt,
+        Set {
+            kind: Kind::Bands,
+            zone,
+            band: 0,
+            north: false,
+        },
+    )
 }
 
-pub(crate) fn columns(zone: i64, band: u8) {
-    tell(Set {
-        kind: Kind::Columns,
-        zone,
-        band,
-        north: false,
-    });
+pub(crate) fn columns(rt: &impl Print, zone: i64, band: u8) -> io::Result<()> {
+    tell(
+        rt,
+        Set {
+            kind: Kind::Columns,
+            zone,
+            band,
+            north: false,
+        },
+    )
 }
 
-pub(crate) fn rows(zone: i64, north: bool) {
-    tell(Set {
-        kind: Kind::Rows,
-        zone,
-        band: 0,
-        north,
-    });
+pub(crate) fn rows(rt: &impl Print, zone: i64, north: bool) -> io::Result<()> {
+    tell(
+        rt,
+        Set {
+            kind: Kind::Rows,
+            zone,
+            band: 0,
+            north,
+        },
+    )
 }

@@ -1,6 +1,7 @@
 // Standard input, line by line. A block of it and the line are buffers of the caller's; where the reading stands goes from call
 // to call.
-use libc::STDIN_FILENO;
+use std::io;
+use std::io::{ErrorKind, Read};
 
 // The length of a line that its buffer does not hold; of such a line the first bytes are kept.
 pub(crate) const LONGER: usize = usize::MAX;
@@ -38,9 +39,29 @@ fn keep(line: &mut [u8], used: usize, byte: u8) -> usize {
     LONGER
 }
 
+// One read of a block, whose length it answers. One that a signal interrupted brought nothing, and is no end.
+fn read_block<R: Read>(input: &mut R, block: &mut [u8]) -> io::Result<Option<usize>> {
+    match input.read(block) {
+        Ok(n) => Ok(Some(n)),
+        Err(e) => {
+            if e.kind() == ErrorKind::Interrupted {
+                return Ok(None);
+            }
+            Err(e)
+        }
+    }
+}
+
 // The next block. At the end of the input a line with no line feed is one all the same.
-fn refilled(block: &mut [u8], used: usize) -> Reading {
-    let end = io::read_full(STDIN_FILENO, block);
+fn refilled<R: Read>(input: &mut R, block: &mut [u8], used: usize) -> io::Result<Reading> {
+    let Some(end) = read_block(input, block)? else {
+        return Ok(Reading {
+            at: 0,
+            end: 0,
+            used,
+            how: OPEN,
+        });
+    };
     let mut how = OPEN;
     if end == 0 {
         how = ENDED;
@@ -48,57 +69,65 @@ fn refilled(block: &mut [u8], used: usize) -> Reading {
             how = NO_LINE;
         }
     }
-    Reading {
+    Ok(Reading {
         at: 0,
         end,
         used,
         how,
-    }
+    })
 }
 
 // One byte more of the line, or one block.
-fn step(block: &mut [u8], line: &mut [u8], r: Reading) -> Reading {
+fn step<R: Read>(
+    input: &mut R,
+    block: &mut [u8],
+    line: &mut [u8],
+    r: Reading,
+) -> io::Result<Reading> {
     let at = r.at;
     let end = r.end;
     let used = r.used;
     if end <= at {
-        return refilled(block, used);
+        return refilled(input, block, used);
     }
     if block.len() <= at {
-        return refilled(block, used);
+        return refilled(input, block, used);
     }
     let byte = block[at];
     if byte == b'\n' {
-        return Reading {
+        return Ok(Reading {
             at: at + 1,
             end,
             used,
             how: ENDED,
-        };
+        });
     }
-    Reading {
+    Ok(Reading {
         at: at + 1,
         end,
         used: keep(line, used, byte),
         how: OPEN,
-    }
+    })
 }
 
-// A proved loop has to end, and nothing says that a line does: it counts down from a number that no run uses up.
-pub(crate) fn next(block: &mut [u8], line: &mut [u8], before: Reading) -> Reading {
+// A proved loop has to end, and nothing says that a line does: it has more turns than any run uses up.
+pub(crate) fn next<R: Read>(
+    input: &mut R,
+    block: &mut [u8],
+    line: &mut [u8],
+    before: Reading,
+) -> io::Result<Reading> {
     let mut r = Reading {
         at: before.at,
         end: before.end,
         used: 0,
         how: OPEN,
     };
-    let mut turns = u64::MAX;
-    while 0 < turns {
-        turns -= 1;
-        r = step(block, line, r);
+    for _ in 0..u64::MAX {
+        r = step(input, block, line, r)?;
         if r.how != OPEN {
             break;
         }
     }
-    r
+    Ok(r)
 }

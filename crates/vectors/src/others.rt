@@ -2,6 +2,7 @@
 // spells no number counts as 0.
 use crate::fields::{byte_of, is_north, numbers, place_of};
 use crate::{calls, ground, letter_sets};
+use std::io;
 
 // What is none of them.
 pub(crate) const NO_KIND: usize = 20;
@@ -14,30 +15,30 @@ pub(crate) fn kind_of(word: &[u8]) -> usize {
     )
 }
 
-pub(crate) fn tell(kind: usize, s: &[u8], room: usize) {
+pub(crate) fn tell(rt: &impl Print, kind: usize, s: &[u8], room: usize) -> io::Result<()> {
     let mut q = [0i64; 6];
     numbers(s, &mut q);
     match kind {
-        0 => calls::shorten(s, room),
-        1 => calls::covers(s),
-        2 => calls::list(s, room),
-        3 => calls::fields(s),
-        4 => ground::floor(s),
-        5 => ground::letter(s),
-        6 => ground::ten(q[0]),
-        7 => ground::limits(q[0]),
-        8 => ground::grid(q[0]),
-        9 => ground::shift(q[0]),
-        10 => ground::capital(byte_of(q[0])),
-        11 => ground::side(byte_of(q[0])),
-        12 => letter_sets::bands(q[0]),
-        13 => letter_sets::columns(q[0], byte_of(q[1])),
-        14 => letter_sets::rows(q[0], is_north(q[1])),
-        15 => ground::allowed(q[0], q[1], q[2]),
-        16 => ground::corner(q[0], q[1]),
-        17 => ground::square(q[0], byte_of(q[1]), byte_of(q[2]), byte_of(q[3])),
-        18 => ground::south_west(q),
-        19 => ground::back(q),
-        _ => {}
+        0 => calls::shorten(rt, s, room),
+        1 => calls::covers(rt, s),
+        2 => calls::list(rt, s, room),
+        3 => calls::fields(rt, s),
+        4 => ground::floor(rt, s),
+        5 => ground::letter(rt, s),
+        6 => ground::ten(rt, q[0]),
+        7 => ground::limits(rt, q[0]),
+        8 => ground::grid(rt, q[0]),
+        9 => ground::shift(rt, q[0]),
+        10 => ground::capital(rt, byte_of(q[0])),
+        11 => ground::side(rt, byte_of(q[0])),
+        12 => letter_sets::bands(rt, q[0]),
+        13 => letter_sets::columns(rt, q[0], byte_of(q[1])),
+        14 => letter_sets::rows(rt, q[0], is_north(q[1])),
+        15 => ground::allowed(rt, q[0], q[1], q[2]),
+        16 => ground::corner(rt, q[0], q[1]),
+        17 => ground::square(rt, q[0], byte_of(q[1]), byte_of(q[2]), byte_of(q[3])),
+        18 => ground::south_west(rt, q),
+        19 => ground::back(rt, q),
+        _ => Ok(()),
     }
 }

@@ -23,10 +23,7 @@ pub(crate) fn put_byte(out: &mut [u8], at: usize, byte: u8) -> usize {
 
 // A number without its sign.
 pub(crate) fn size(z: i64) -> u64 {
-    if z < 0 {
-        return whole::fold_of(z) + 1;
-    }
-    whole::fold_of(z)
+    z.unsigned_abs()
 }
 
 // A space and a number. A minus takes the place of the space that its count has.
@@ -62,7 +59,7 @@ fn put_mark(out: &mut [u8], at: usize, mark: u8, z: i64) -> usize {
 // Which of the numbers comes next.
 fn behind_mark(mark: u8, i: usize) -> usize {
     match mark {
-        b'#' | b'!' | b'%' | b'^' => std::num::wrapping_add_usize(i, 1),
+        b'#' | b'!' | b'%' | b'^' => i.wrapping_add(1),
         _ => i,
     }
 }
@@ -72,11 +69,9 @@ fn behind_mark(mark: u8, i: usize) -> usize {
 pub(crate) fn put_form(form: &[u8; 12], n: &[i64; 6], out: &mut [u8]) -> usize {
     let mut to = 0;
     let mut i = 0;
-    let mut k = 0;
-    while k < 12 {
-        to = put_mark(out, to, form[k], n[i % 6]);
-        i = behind_mark(form[k], i);
-        k += 1;
+    for mark in form {
+        to = put_mark(out, to, *mark, n[i % 6]);
+        i = behind_mark(*mark, i);
     }
     to
 }
@@ -85,14 +80,12 @@ pub(crate) fn put_form(form: &[u8; 12], n: &[i64; 6], out: &mut [u8]) -> usize {
 fn put_fraction(out: &mut [u8], at: usize, fraction: u64) -> usize {
     let mut to = put_byte(out, at, b'.');
     let mut rest = fraction % 10_000_000;
-    let mut left: usize = 7;
-    while 0 < left {
+    for _ in 0..7 {
         if rest == 0 {
             break;
         }
         to = put_byte(out, to, b'0' + (rest / 1_000_000 % 10) as u8);
         rest = rest % 1_000_000 * 10;
-        left -= 1;
     }
     to
 }

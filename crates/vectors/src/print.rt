@@ -1,29 +1,28 @@
 // Words and numbers on standard output. A number has a space in front, and so has a hemisphere.
 use crate::pen::put_number;
-use libc::STDOUT_FILENO;
 use say::{front, put_count};
+use std::io;
 
-pub(crate) fn text(words: &[u8]) {
-    io::write_all(STDOUT_FILENO, words);
+pub(crate) fn text(rt: &impl Print, words: &[u8]) -> io::Result<()> {
+    rt.write_all(words)
 }
 
 // 21 bytes hold the longest number: a space and 20 digits, or a space, a minus and 19 digits.
-pub(crate) fn number(n: u64) {
+pub(crate) fn number(rt: &impl Print, n: u64) -> io::Result<()> {
     let mut space = [0u8; 21];
     let end = put_count(&mut space, 0, n);
-    text(front(&space, end));
+    text(rt, front(&space, end))
 }
 
-pub(crate) fn signed(z: i64) {
+pub(crate) fn signed(rt: &impl Print, z: i64) -> io::Result<()> {
     let mut space = [0u8; 21];
     let end = put_number(&mut space, 0, z);
-    text(front(&space, end));
+    text(rt, front(&space, end))
 }
 
-pub(crate) fn side(north: bool) {
+pub(crate) fn side(rt: &impl Print, north: bool) -> io::Result<()> {
     if north {
-        text(b" N");
-        return;
+        return text(rt, b" N");
     }
-    text(b" S");
+    text(rt, b" S")
 }

@@ -86,9 +86,7 @@ fn behind(s: &[u8], k: usize) -> usize {
 pub(crate) fn text_of(s: &[u8], out: &mut [u8]) -> usize {
     let mut used = 0;
     let mut k = 0;
-    let mut turns = s.len();
-    while 0 < turns {
-        turns -= 1;
+    for _ in 0..s.len() {
         if s.len() <= k {
             break;
         }
