@@ -63,10 +63,9 @@ module _ (t line out : List ℕ) (r : ℕ) (is : drop r line ≡ t) (all : lengt
   pub short : length out < 128 - r → (Refused 20 ≡ fit_of t (length out)) × (out ≡ leaves_of t out)
   short h = let s = size in (sym (no_room t (length out) (omega arith)), sym (untouched t out (omega arith)))
 
-  pub fits : 128 - r ≤ length out → (src last : List ℕ) → src ≡ take (128 - r) (drop r line)
-      → last ≡ take (length src) src ++ drop (length src) out → (Length (128 - r) ≡ fit_of t (length out)) × (last ≡ leaves_of t out)
-  fits h src last e f =
+  pub fits : 128 - r ≤ length out → (src : List ℕ) → src ≡ take (128 - r) (drop r line) → (Length (128 - r) ≡ fit_of t (length out)) × (src ++ drop (128 - r) out ≡ leaves_of t out)
+  fits h src e =
       let s = size in
       let k : length t ≤ length out = omega arith in
       let u : src ≡ t = e ∙ take_all (128 - r) (drop r line) (omega (arith, length-drop r line)) ∙ is in
-      (ap Length (sym s) ∙ sym (room t (length out) k), rw (f, u, take-length t) (sym (held t out k)))
+      (ap Length (sym s) ∙ sym (room t (length out) k), rw u (ap (λ (n : ℕ). t ++ drop n out) (sym s) ∙ sym (held t out k)))

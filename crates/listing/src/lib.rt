@@ -203,6 +203,6 @@ pub fn list_line_by(form: Form, text: &[u8], number: u64, out: &mut [u8]) -> Wri
     if out.len() < n {
         return Written::Refused(20);
     }
-    bytes::copy(&line[at..], out);
+    out[..n].copy_from_slice(&line[at..]);
     Written::Length(n)
 }

@@ -11,8 +11,8 @@ use mir.Val.{SFits, to_z}
 use mir.Facts.{to_z-of_z, to_z_pos}
 use Rattle.whole.proofs.Parts.{up, dn, eq_by, up_neg, dn_neg, sub_parts, sfits_by}
 use Rattle.numbers.specs.Numbers.{minus}
-use Rattle.numbers.proofs.refused.Statement.{statement}
-use Rattle.numbers.proofs.refused.Tie as tie
+use Rattle.numbers.proofs.refused.Goals as goal
+use Rattle.numbers.proofs.refused.Goals.{Start}
 
 byte : (n : ℕ) → n < 256 → to_z w64 n ≡ pos n
 byte n h = to_z_pos w64 (omega arith)
@@ -29,14 +29,11 @@ negative n =
     let d = dn_neg (pos n) in
     eq_by (pos 0 -ℤ pos n) (neg_ℤ (pos n)) (omega arith)
 
-small : (c : tie.Start) → c.args.n < 256
+small : (c : Start) → c.args.n < 256
 small c = omega arith
 
-sub-result : tie.Need-overflow-sub-result
-sub-result c = rw (byte c.args.n (small c)) (fits _ _ (lit< tt) (small c))
+pub overflow_sub-result : goal.overflow_sub-result
+overflow_sub-result c = rw (byte c.args.n (small c)) (fits _ _ (lit< tt) (small c))
 
-returns : tie.Need-returns
+pub returns : goal.returns
 returns c = rw (byte c.args.n (small c)) (to_z-of_z (fits 0 _ (lit< tt) (small c)) ∙ negative c.args.n)
-
-pub refused_spec : {M : Type 1} → statement M
-refused_spec = tie.close (tie.spec (λ c. search rules) sub-result returns)
