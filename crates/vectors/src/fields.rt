@@ -15,15 +15,23 @@ pub(crate) fn head(s: &[u8]) -> &[u8] {
     &s[..space_of(s)]
 }
 
+// Behind the first space; empty where there is none.
+fn behind_space(s: &[u8]) -> &[u8] {
+    let end = space_of(s);
+    if end < s.len() {
+        return &s[end + 1..];
+    }
+    &s[..0]
+}
+
 // Behind the k-th space; empty where there are fewer.
 pub(crate) fn after(s: &[u8], k: usize) -> &[u8] {
     let mut rest = s;
     for _ in 0..k {
-        let end = space_of(rest);
-        if end == rest.len() {
-            return &rest[end..];
+        if rest.len() == 0 {
+            break;
         }
-        rest = &rest[end + 1..];
+        rest = behind_space(rest);
     }
     rest
 }
@@ -42,7 +50,7 @@ pub(crate) fn place_of(word: &[u8], words: &[u8]) -> usize {
         if is_same(head(rest), word) {
             return k;
         }
-        rest = after(rest, 1);
+        rest = behind_space(rest);
     }
     words.len()
 }
