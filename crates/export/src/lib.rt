@@ -14,15 +14,13 @@ ghost use Rattle.arrays.specs.Lent.{read_leaves, metres_leaves, moved_leaves};
 
 // ---- reading
 
-#[unsafe(no_mangle)]
-pub extern "C" fn mgrs_read(text: &[u8], position: &mut [i64; 6]) -> i64
+pub fn mgrs_read(text: &[u8], position: &mut [i64; 6]) -> i64
     ensures { (result ≡ read_number (read_of text.now)) × (position.new ≡ read_leaves (read_of text.now) position.old) }
 {
     arrays::read(text, position)
 }
 
-#[unsafe(no_mangle)]
-pub extern "C" fn mgrs_read_metres(text: &[u8], metres: &mut [f64; 2]) -> i64
+pub fn mgrs_read_metres(text: &[u8], metres: &mut [f64; 2]) -> i64
     ensures { (result ≡ metres_number (metres_read text.now)) × (metres.new ≡ metres_leaves (metres_read text.now) metres.old) }
 {
     arrays::read_metres(text, metres)
@@ -30,8 +28,7 @@ pub extern "C" fn mgrs_read_metres(text: &[u8], metres: &mut [f64; 2]) -> i64
 
 // ---- writing
 
-#[unsafe(no_mangle)]
-pub extern "C" fn mgrs_write(
+pub fn mgrs_write(
     zone: i64,
     north: bool,
     band: u8,
@@ -45,8 +42,7 @@ pub extern "C" fn mgrs_write(
     numbers::write(zone, north, band, p, easting, northing, out)
 }
 
-#[unsafe(no_mangle)]
-pub extern "C" fn mgrs_shorten(text: &[u8], q: i64, out: &mut [u8]) -> i64
+pub fn mgrs_shorten(text: &[u8], q: i64, out: &mut [u8]) -> i64
     ensures { (result ≡ length_number (short_of text.now q (length out.old))) × (out.new ≡ short_leaves text.now q out.old) }
 {
     numbers::shorten(text, q, out)
@@ -54,15 +50,13 @@ pub extern "C" fn mgrs_shorten(text: &[u8], q: i64, out: &mut [u8]) -> i64
 
 // ---- squares and ranges
 
-#[unsafe(no_mangle)]
-pub extern "C" fn mgrs_covers(a: &[u8], b: &[u8]) -> i64
+pub fn mgrs_covers(a: &[u8], b: &[u8]) -> i64
     ensures { result ≡ covers_number (covers_of a.now b.now) }
 {
     numbers::covers(a, b)
 }
 
-#[unsafe(no_mangle)]
-pub extern "C" fn mgrs_check_coords(
+pub fn mgrs_check_coords(
     zone: i64,
     north: bool,
     easting: i64,
@@ -74,8 +68,7 @@ pub extern "C" fn mgrs_check_coords(
     arrays::mgrs_check_coords(zone, north, easting, northing, moved)
 }
 
-#[unsafe(no_mangle)]
-pub extern "C" fn utm_check_coords(zone: i64, north: bool, easting: i64, northing: i64) -> i64
+pub fn utm_check_coords(zone: i64, north: bool, easting: i64, northing: i64) -> i64
     ensures { result ≡ utm_number (utm_check zone north easting northing) }
 {
     numbers::utm_check_coords(zone, north, easting, northing)
@@ -84,22 +77,19 @@ pub extern "C" fn utm_check_coords(zone: i64, north: bool, easting: i64, northin
 // ---- bands, zones and rows
 
 // Nothing is refused: a band of the south is below 0, and so is a row.
-#[unsafe(no_mangle)]
-pub extern "C" fn mgrs_latitude_band(latitude: i64) -> i64
+pub fn mgrs_latitude_band(latitude: i64) -> i64
     ensures { result ≡ band_of latitude }
 {
     zones::to_latitude_band(latitude)
 }
 
-#[unsafe(no_mangle)]
-pub extern "C" fn mgrs_standard_zone(latitude: i64, longitude: i64) -> i64
+pub fn mgrs_standard_zone(latitude: i64, longitude: i64) -> i64
     ensures { result ≡ zone_number (zone_of latitude longitude) }
 {
     numbers::standard_zone(latitude, longitude)
 }
 
-#[unsafe(no_mangle)]
-pub extern "C" fn mgrs_utm_row(band: i64, column: i64, letter: i64) -> i64
+pub fn mgrs_utm_row(band: i64, column: i64, letter: i64) -> i64
     ensures { result ≡ row_of band column letter }
 {
     numbers::utm_row(band, column, letter)

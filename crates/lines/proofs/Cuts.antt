@@ -8,7 +8,7 @@ use borrow.Author.Tests.{eqb-true}
 use lib.Dec.{eqb}
 use lib.ListN.{length, take, drop, length-append}
 use lib.Seq.{take-append_seam, drop-append-add}
-use Rattle.bytes.specs.Bytes.{index_of, index_after}
+use Rattle.lines.specs.inner.Feeds.{index_of}
 use Rattle.whole.proofs.Parts.{clash}
 use Rattle.lines.specs.Lines.{onto, ended}
 use Rattle.lines.specs.inner.Steps.{joined}
@@ -69,12 +69,12 @@ ended_open [] e = refl
 ended_open (b ∷ t) e = let x = free_cons b t e in rw (x.0, ended_open t x.1)
 
 index_line : (t s : List ℕ) → free t ≡ true → index_of 10 (t ++ (10 ∷ s)) ≡ length t
-unfolding index_of index_after
+unfolding index_of
 index_line [] s e = refl
 index_line (b ∷ t) s e = let x = free_cons b t e in rw (x.0, index_line t s x.1)
 
 index_open : (t : List ℕ) → free t ≡ true → index_of 10 t ≡ length t
-unfolding index_of index_after
+unfolding index_of
 index_open [] e = refl
 index_open (b ∷ t) e = let x = free_cons b t e in rw (x.0, index_open t x.1)
 

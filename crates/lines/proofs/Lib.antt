@@ -3,3 +3,4 @@ pub mod Parts
 pub mod Steps
 pub mod Runs
 pub mod Unique
+mod Feeds

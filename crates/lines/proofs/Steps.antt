@@ -10,7 +10,7 @@ use borrow.Author.Tests.{lt-ltb, le-ltb, ltb-true, ltb-false}
 use lib.Dec.{ltb}
 use lib.ListN.{length, take, drop, get_or, set, length-set, length-append, length-take, length-drop, take-append-drop, drop_of_length-le}
 use lib.Seq.{drop-cons, take-suc, set_at, append_snoc, get_or-append-add, get_or-drop, take_all, take_at, drop_at, drop-drop, length-take-le, take-length}
-use Rattle.bytes.specs.Bytes.{index_of, slice}
+use Rattle.lines.specs.inner.Feeds.{index_of}
 use Rattle.reader.specs.declared.Answer.{Answer}
 use Rattle.listing.specs.Listing.{line_of}
 use Rattle.whole.proofs.Parts.{clash}
@@ -96,10 +96,6 @@ module _ (t out last : List ℕ) (at : ℕ) (low : at ≤ length out) (is : last
       let y = fitting_full (length out - at) t x in
       let z : last ≡ take (length out - at) (drop at out) = is ∙ untouched t (take (length out - at) (drop at out)) (omega arith) in
       (sym x, rw y (omega arith), rw (y, wrote_none, z, take-append-drop (length out - at) (drop at out)) (take-append-drop at out))
-
-slice_all : (from : ℕ) (block : List ℕ) → slice from (length block) block ≡ drop from block
-unfolding slice
-slice_all from block = rw (take-length block)
 
 -- ---- the open line goes to the front, a byte at a time
 
@@ -212,7 +208,7 @@ module _ (read : List ℕ → Answer) where
     pub text : used + length (answers_of read (length out - used) number (ended (drop from block))) ≡ at + length (answers_of read (length out₀ - at) first (ended block))
     pub buffer : wrote out used (answers_of read (length out - used) number (ended (drop from block))) ≡ wrote out₀ at (answers_of read (length out₀ - at) first (ended block))
 
-  pub begins : (block out : List ℕ) (at first feed : ℕ) → at ≤ length out → feed ≡ 0 + index_of 10 (slice 0 (length block) block) → feed ≤ length block
+  pub begins : (block out : List ℕ) (at first feed : ℕ) → at ≤ length out → feed ≡ 0 + index_of 10 (drop 0 block) → feed ≤ length block
       → Going block out at first out first at 0 feed
   begins block out at first feed h f i =
       record {
@@ -220,7 +216,7 @@ module _ (read : List ℕ → Answer) where
         within = h;
         low = omega arith;
         inside = i;
-        found = f ∙ ap (λ (l : List ℕ). 0 + index_of 10 l) (slice_all 0 block);
+        found = f;
         taken = zero-add _;
         next = refl;
         more = refl;
@@ -241,7 +237,7 @@ module _ (read : List ℕ → Answer) where
 
       pub turned : (out' : List ℕ) (number' used' feed' : ℕ) (full : Bool)
           → PutAt (line_of read number (take (feed - from) (drop from block))) out used full used' out'
-          → full ≡ false → number' ≡ next_of number → feed' ≡ feed + 1 + index_of 10 (slice (feed + 1) (length block) block) → feed' ≤ length block
+          → full ≡ false → number' ≡ next_of number → feed' ≡ feed + 1 + index_of 10 (drop (feed + 1) block) → feed' ≤ length block
           → Going block out₀ at first out' number' used' (feed + 1) feed'
       turned out' number' used' feed' full p left en ef inside =
           let l : List ℕ = take (feed - from) (drop from block) in
@@ -262,7 +258,7 @@ module _ (read : List ℕ → Answer) where
             within = omega arith;
             low = omega arith;
             inside = inside;
-            found = ef ∙ ap (λ (x : List ℕ). feed + 1 + index_of 10 x) (slice_all (feed + 1) block);
+            found = ef;
             taken = rw (r, en) (omega (arith, g.low, g.taken, ap (taken_of read room number) next_lines ∙ size_room room number l ls k));
             next = rw (r, en) (sym (ap (number_past read room number) next_lines ∙ number_room room number l ls k) ∙ g.next);
             more = rw (r, en) (sym (ap (left_of read room number) next_lines ∙ more_room room number l ls k) ∙ g.more);

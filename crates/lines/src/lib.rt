@@ -1,6 +1,7 @@
 // The lines of an input that comes in blocks, each answered once and in order, in fixed memory.
-ghost use Rattle.std.specs.Prelude.{◌≡◌, ◌++◌, ◌-◌, ◌≤◌, min, length, take, drop};
+ghost use Rattle.std.specs.Prelude.{◌≡◌, ◌++◌, ◌+◌, ◌-◌, ◌≤◌, min, length, take, drop};
 ghost use Rattle.listing.specs.Listing.{read_by, line_of};
+ghost use Rattle.lines.specs.inner.Feeds.{index_of};
 ghost use Rattle.lines.specs.inner.Steps.{next_of, moved_run, PutAt, ListedAt, step_run, step_buf, step_out, finish_run, finish_out, start_run, received_run, written_run};
 
 use listing::Form;
@@ -107,6 +108,17 @@ fn put_line(form: Form, line: &[u8], number: u64, out: &mut [u8], at: usize) -> 
     }
 }
 
+// The place of the next line feed, from a place on; the block's end where there is none.
+fn feed_from(block: &[u8], from: usize) -> usize
+    requires { from ≤ length block.now }
+    ensures { (result ≡ from + index_of 10 (drop from block.now)) × (result ≤ length block.now) }
+{
+    match memchr::memchr(b'\n', &block[from..]) {
+        Some(k) => from + k,
+        None => block.len(),
+    }
+}
+
 // Lists the lines that end in a block, behind what waits in the output, as far as there is room.
 fn list_lines(form: Form, block: &[u8], first: u64, out: &mut [u8], at: usize) -> Listed
     requires { at ≤ length out.old }
@@ -115,7 +127,7 @@ fn list_lines(form: Form, block: &[u8], first: u64, out: &mut [u8], at: usize) -
     let mut number = first;
     let mut used = at;
     let mut from = 0;
-    let mut feed = bytes::scan::find(block, 0, block.len(), b'\n');
+    let mut feed = feed_from(block, 0);
     while feed < block.len() {
         let put = put_line(form, &block[from..feed], number, out, used);
         if put.full {
@@ -129,7 +141,7 @@ fn list_lines(form: Form, block: &[u8], first: u64, out: &mut [u8], at: usize) -
         number = next_number(number);
         used = put.used;
         from = feed + 1;
-        feed = bytes::scan::find(block, from, block.len(), b'\n');
+        feed = feed_from(block, from);
     }
     Listed {
         taken: from,

@@ -14,7 +14,7 @@ use Rattle.numbers.proofs.shorten.Goals as goal
 use Rattle.numbers.proofs.shorten.Goals.{After-shorten}
 
 answer : (c : After-shorten) → (c.shorten.result ≡ short_of c.args.text.now c.args.q (length c.args.out.now))
-    × (c.shorten.new.1.1.0 ≡ short_leaves c.args.text.now c.args.q c.args.out.now)
+    × (c.shorten.new.out ≡ short_leaves c.args.text.now c.args.q c.args.out.now)
 answer c =
     let q = to_z-of_z c.ranges.q in
     let e = c.shorten.ensures in
@@ -22,7 +22,7 @@ answer c =
 
 pub overflow_cast-result : goal.overflow_cast-result
 overflow_cast-result c =
-    length_fits _ _ c.well-formed.1.1.0.1 (short_room _ _ _ _ (sym (answer (goal.at.overflow_cast-result c).After-shorten).0 ∙ c.in-Length.is))
+    length_fits _ _ c.well_formed.1.1.0.1 (short_room _ _ _ _ (sym (answer (goal.at.overflow_cast-result c).After-shorten).0 ∙ c.in-Length.is))
 
 pub overflow_cast-k : goal.overflow_cast-k
 overflow_cast-k c =

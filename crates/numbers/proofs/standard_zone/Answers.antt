@@ -21,7 +21,7 @@ overflow_cast-n c =
 
 pub returns-in-Zone : goal.returns-in-Zone
 returns-in-Zone c =
-    rw (sym (answer (goal.at.returns-in-Zone c).After-standard_zone) ∙ c.in-Zone.is) (to_z-of_z {w = w64} {z = c.in-Zone.z} (record { sfits = c.known_told-1.given.0.1 }))
+    rw (sym (answer (goal.at.returns-in-Zone c).After-standard_zone) ∙ c.in-Zone.is) (search rules)
 
 pub returns-in-Refused : goal.returns-in-Refused
 returns-in-Refused c =

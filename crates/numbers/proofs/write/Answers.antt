@@ -13,13 +13,13 @@ use Rattle.numbers.proofs.write.Goals as goal
 use Rattle.numbers.proofs.write.Goals.{After-write}
 
 answer : (c : After-write) → (c.write.result ≡ write_of c.args.zone c.args.north c.args.band c.args.p c.args.easting c.args.northing (length c.args.out.now))
-    × (c.write.new.1.1.1.1.1.1.0 ≡ write_leaves c.args.zone c.args.north c.args.band c.args.p c.args.easting c.args.northing c.args.out.now)
+    × (c.write.new.out ≡ write_leaves c.args.zone c.args.north c.args.band c.args.p c.args.easting c.args.northing c.args.out.now)
 answer c =
     rw (to_z-of_z c.ranges.zone, to_z-of_z c.ranges.p, to_z-of_z c.ranges.easting, to_z-of_z c.ranges.northing) at c.write.ensures
 
 pub overflow_cast-result : goal.overflow_cast-result
 overflow_cast-result c =
-    length_fits _ _ c.well-formed.1.1.1.1.1.1.0.1 (write_room _ _ _ _ _ _ _ _ (sym (answer (goal.at.overflow_cast-result c).After-write).0 ∙ c.in-Length.is))
+    length_fits _ _ c.well_formed.1.1.1.1.1.1.0.1 (write_room _ _ _ _ _ _ _ _ (sym (answer (goal.at.overflow_cast-result c).After-write).0 ∙ c.in-Length.is))
 
 pub overflow_cast-n : goal.overflow_cast-n
 overflow_cast-n c =

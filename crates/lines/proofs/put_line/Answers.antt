@@ -1,0 +1,20 @@
+-- `lines::put_line` meets its contract, by what `list_line_by` answers and leaves.
+-- Assumes nothing.
+use mathlib.Core.Path.{sym, ◌∙◌}
+use native.Mathlib.Omega.{arith}
+use lib.ListN.{length-take, length-drop}
+use Rattle.writer.proofs.Fit.{fitted}
+use Rattle.lines.proofs.Steps.{put_fits, put_full}
+use borrow.Author.Rules.{rules}
+use Rattle.lines.proofs.put_line.Goals as goal
+
+pub overflow_add-result : goal.overflow_add-result
+overflow_add-result c = omega (arith, simp (length-take, length-drop) at (fitted _ _ _ (sym c.list_line_by.ensures.0 ∙ c.in-Length.is)))
+
+pub returns-in-Length : goal.returns-in-Length
+returns-in-Length c =
+    put_fits _ c.args.out.now _ c.args.at c.requires c.list_line_by.ensures.1 _ (sym c.list_line_by.ensures.0 ∙ c.in-Length.is)
+
+pub returns-in-Refused : goal.returns-in-Refused
+returns-in-Refused c =
+    put_full _ c.args.out.now _ c.args.at c.requires c.list_line_by.ensures.1 _ (sym c.list_line_by.ensures.0 ∙ c.in-Refused.is)
