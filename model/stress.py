@@ -5,21 +5,15 @@ block's end, pieces through a pipe, interrupted and short reads and writes, fail
     model/stress.py            all of that, in a minute or two; ends with status 1 if something differs
     model/stress.py --speed    lines a second on 1,000,000 references
 
-Run it at the repository's root after `rt check list`. It is no part of the gate.
+Run it at the repository's root, on x86-64, after `./list </dev/null`, which builds the program. It is no part of the gate.
 """
 import os, random, re, resource, shutil, signal, socket, struct, subprocess, sys, tempfile, threading, time
 
 from list import BANDS, COLUMNS, ROWS, listing as model
 
 here = os.getcwd()
-program = os.path.join(here, "target", "bin", "list")
-machine = os.uname().machine
-if machine == "x86_64":
-    command = [program]
-else:
-    home = os.environ.get("RATTLE_HOME") or os.path.dirname(os.path.dirname(os.path.realpath(shutil.which("rt"))))
-    tools = os.path.join(home, "on", machine, "toolchain")
-    command = [tools + "/bin/qemu-x86_64", tools + "/lib/ld-linux-x86-64.so.2", "--library-path", tools + "/lib", program]
+program = os.path.join(here, "crates", "list", "out", "list")
+command = [program]
 BLOCK = 65536
 
 # Stands before the C library: reads and writes are interrupted or short, at random. With BREAKS, each read brings PIECE bytes
@@ -60,16 +54,13 @@ ssize_t write(int fd, const void *buf, size_t n) {
 
 
 def faulty(*flags):
-    """The command with FAULTS before the C library, or None where the kit's compiler is not at hand."""
-    home = os.environ.get("RATTLE_HOME") or os.path.dirname(os.path.dirname(os.path.realpath(shutil.which("rt"))))
-    kit = os.path.join(home, "on", machine, "toolchain")
-    if not os.path.exists(kit + "/bin/clang"):
-        return None
+    """The command with FAULTS before the C library, compiled by the kit's compiler."""
+    kit = os.path.join(os.path.dirname(os.path.dirname(os.path.realpath(shutil.which("rt")))), "toolchain", "bin")
+    os.makedirs(os.path.join(here, "target"), exist_ok=True)
     so = os.path.join(here, "target", "faults.so")
-    subprocess.run([kit + "/bin/clang", "--target=x86_64-unknown-linux-gnu", "-O1", *flags, "-fPIC", "-c", "-x", "c", "-", "-o", so + ".o"], input=FAULTS.encode(), check=True)
-    subprocess.run([kit + "/bin/ld.lld", "-shared", so + ".o", "-o", so], check=True)
-    emulator = [kit + "/bin/qemu-x86_64"] if machine != "x86_64" else []
-    return emulator + [kit + "/lib/ld-linux-x86-64.so.2", "--preload", so, "--library-path", kit + "/lib", program]
+    subprocess.run([kit + "/clang", "--target=x86_64-unknown-linux-gnu", "-O1", *flags, "-fPIC", "-c", "-x", "c", "-", "-o", so + ".o"], input=FAULTS.encode(), check=True)
+    subprocess.run([kit + "/ld.lld", "-shared", so + ".o", "-o", so], check=True)
+    return ["env", "LD_PRELOAD=" + so, program]
 
 
 def from_file(data, command=command):
@@ -199,20 +190,19 @@ def answered(data):
 def read_fails(breaks, piece):
     """After some reads of piece bytes one fails: the lines that had ended are answered, and the reason is given."""
     words = faulty(f"-DBREAKS={breaks}", f"-DPIECE={piece}")
-    if words:
-        r = random.Random(breaks)
-        data = b"".join(text(r, r.choice([3, 3, 3, 15, 64, 65, 300])) + b"\n" for _ in range(20000))
-        code, out, err = from_file(data, words)
-        ok = err == b"read: Input/output error\n" and out == answered(data[: breaks * piece])
-        told(f"read {breaks + 1} fails, reads of {piece}", ok, code, err, len(out))
+    r = random.Random(breaks)
+    data = b"".join(text(r, r.choice([3, 3, 3, 15, 64, 65, 300])) + b"\n" for _ in range(20000))
+    code, out, err = from_file(data, words)
+    ok = code == 1 and err == b"read: Input/output error (os error 5)\n" and out == answered(data[: breaks * piece])
+    told(f"read {breaks + 1} fails, reads of {piece}", ok, code, err, len(out))
 
 
 def read_and_write_fail():
     words = faulty("-DBREAKS=1", "-DPIECE=50")
-    if words:
-        with open("/dev/full", "wb") as full:
-            r = subprocess.run(words, input=b"18T\n" * 100, stdout=full, stderr=subprocess.PIPE)
-        told("a read fails, and then the write", r.stderr == b"read: Input/output error\nwrite: No space left on device\n", r.stderr)
+    with open("/dev/full", "wb") as full:
+        r = subprocess.run(words, input=b"18T\n" * 100, stdout=full, stderr=subprocess.PIPE)
+    says = b"read: Input/output error (os error 5)\nwrite: No space left on device (os error 28)\n"
+    told("a read fails, and then the write", r.returncode == 1 and r.stderr == says, r.returncode, r.stderr)
 
 
 def reset():
@@ -228,7 +218,8 @@ def reset():
         far.close()
         out, err = p.communicate(timeout=60)
         near.close()
-    told("the connection is reset", out == answered(data) and err == b"read: Connection reset by peer\n", err, len(out))
+    ok = p.returncode == 1 and out == answered(data) and err == b"read: Connection reset by peer (os error 104)\n"
+    told("the connection is reset", ok, p.returncode, err, len(out))
 
 
 def memory():
@@ -254,10 +245,10 @@ def failures():
         f.write(some)
         f.flush()
         for name, stdin, stdout, says in [
-            ("stdout=/dev/full", f, open("/dev/full", "wb"), b"write: No space left on device\n"),
-            ("stdout closed", f, "closed", b"write: Bad file descriptor\n"),
-            ("stdin a directory", os.open("/", os.O_RDONLY), subprocess.PIPE, b"read: Is a directory\n"),
-            ("stdin closed", "closed", subprocess.PIPE, b"read: Bad file descriptor\n"),
+            ("stdout=/dev/full", f, open("/dev/full", "wb"), b"write: No space left on device (os error 28)\n"),
+            ("stdout closed", f, "closed", b"write: Bad file descriptor (os error 9)\n"),
+            ("stdin a directory", os.open("/", os.O_RDONLY), subprocess.PIPE, b"read: Is a directory (os error 21)\n"),
+            ("stdin closed", "closed", subprocess.PIPE, b"read: Bad file descriptor (os error 9)\n"),
         ]:
             f.seek(0)
             words = {}
@@ -265,11 +256,11 @@ def failures():
             if shut:
                 words["preexec_fn"] = lambda: [os.close(k) for k in shut]
             r = subprocess.run(command, stdin=None if stdin == "closed" else stdin, stdout=None if stdout == "closed" else stdout, stderr=subprocess.PIPE, timeout=60, **words)
-            ok = r.stderr == says and not r.stdout and r.returncode == 0
+            ok = r.stderr == says and not r.stdout and r.returncode == 1
             told(name, ok, r.returncode, r.stderr)
         # small input: the only write is the last one
         r = subprocess.run(command, input=b"a\nb", stdout=open("/dev/full", "wb"), stderr=subprocess.PIPE)
-        told("small to /dev/full", r.stderr == b"write: No space left on device\n", r.stderr)
+        told("small to /dev/full", r.returncode == 1 and r.stderr == b"write: No space left on device (os error 28)\n", r.returncode, r.stderr)
         # empty input writes nothing, so a closed standard output does no harm
         r = subprocess.run(command, stdin=subprocess.DEVNULL, stderr=subprocess.PIPE, preexec_fn=lambda: os.close(1))
         told("empty input, stdout closed", not r.stderr and not r.returncode, r.stderr)
@@ -283,7 +274,7 @@ def failures():
         with open(out, "wb") as g:
             r = subprocess.run(command, input=some, stdout=g, stderr=subprocess.PIPE, preexec_fn=lambda: (signal.signal(signal.SIGXFSZ, signal.SIG_IGN), resource.setrlimit(resource.RLIMIT_FSIZE, (100000, 100000))))
         got = open(out, "rb").read()
-        ok = r.stderr == b"write: File too large\n" and len(got) == 100000 and model(some).startswith(got)
+        ok = r.returncode == 1 and r.stderr == b"write: File too large (os error 27)\n" and len(got) == 100000 and model(some).startswith(got)
         told("file too large at 100,000 bytes", ok, r.returncode, r.stderr, len(got))
 
 
@@ -311,11 +302,10 @@ def main():
     holds("pipe", "a long line byte by byte", line, from_pipe(line, [1] * len(line), 0.003))
     print("pipe", tally["pipe"], "cases,", len(bad), "bad,", round(time.time() - began), "s", flush=True)
     words = faulty()
-    if words:
-        for source in (at_random, wandering):
-            for what, data in source():
-                holds("faults", "faults, " + what, data, from_file(data, words))
-        print("faults", tally["faults"], "cases,", len(bad), "bad,", round(time.time() - began), "s", flush=True)
+    for source in (at_random, wandering):
+        for what, data in source():
+            holds("faults", "faults, " + what, data, from_file(data, words))
+    print("faults", tally["faults"], "cases,", len(bad), "bad,", round(time.time() - began), "s", flush=True)
     failures()
     memory()
     print(sum(tally.values()), "cases", tally, len(bad), "bad", bad[:10], round(time.time() - began), "s")
@@ -329,7 +319,7 @@ def speed():
         began = time.time()
         code, out, err = from_file(data)
         took = time.time() - began
-        print(len(data), "bytes in,", len(out), "out,", round(took, 2), "s,", round(1e6 / took), "lines a second,", "emulated" if machine != "x86_64" else "native", "equal" if out == model(data) else "BAD")
+        print(len(data), "bytes in,", len(out), "out,", round(took, 2), "s,", round(1e6 / took), "lines a second,", "equal" if out == model(data) else "BAD")
 
 
 speed() if "--speed" in sys.argv else main()
