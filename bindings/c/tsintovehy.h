@@ -1,5 +1,5 @@
 /* tsintovehy.h: the calls of libexport.a, a proved reader and writer of MGRS grid references. For C99 and C++, on x86-64 Linux.
- * `rt staticlib export` writes the archive to target/staticlib: link it, and nothing else.
+ * `./archive` writes the archive to target/staticlib: link it, and nothing else.
  *
  * Answers. Every call answers an int64_t. 0 or more is the answer; below 0 is minus the number of a refusal, and
  * tsintovehy_rule gives its words. Two calls refuse nothing and answer negative numbers in the south: mgrs_latitude_band and

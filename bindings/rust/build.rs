@@ -1,4 +1,4 @@
-//! Finds libexport.a, which `rt staticlib export` writes, and tells cargo where it is.
+//! Finds libexport.a, which `./archive` writes, and tells cargo where it is.
 use std::env;
 use std::path::{Path, PathBuf};
 use std::process::exit;
@@ -46,7 +46,7 @@ fn main() {
     println!("cargo:rerun-if-changed={}", archive.display());
     if !archive.is_file() {
         stop(&format!(
-            "{} is not there: run `rt staticlib export` at the repository's root, \
+            "{} is not there: run `./archive` at the repository's root, \
              or set TSINTOVEHY_LIB to the folder that has libexport.a",
             archive.display()
         ));

@@ -20,7 +20,7 @@
 //! [`units_of_metres`], which are tested and not proved.
 //!
 //! The library is code for x86-64 Linux, in `libexport.a`; `build.rs` looks for it in the folder that the environment
-//! variable `TSINTOVEHY_LIB` names, else in the repository's `target/staticlib`, where `rt staticlib export` writes it.
+//! variable `TSINTOVEHY_LIB` names, else in the repository's `target/staticlib`, where `./archive` writes it.
 #![deny(missing_docs)]
 #![deny(unsafe_code)]
 

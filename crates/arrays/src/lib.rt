@@ -1,5 +1,7 @@
 // What is read, and a point after the edge rules, in a lent array. Each call answers a number as those of `numbers` do, and a
 // refusal leaves every lent element as it was.
+#![tactic(auto)]
+
 ghost use Rattle.std.specs.Prelude.{◌≡◌};
 ghost use Rattle.ranges.specs.Edges.{mgrs_check};
 ghost use Rattle.reader.specs.Read.{read_of};

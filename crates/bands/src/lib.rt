@@ -1,4 +1,6 @@
 // The bands of UTM and of UPS, as tables, and which of them a zone uses.
+#![tactic(auto)]
+
 ghost use Rattle.std.specs.Prelude.{◌≡◌};
 ghost use Rattle.letters.specs.Letters.{UtmBands, UpsBands, place_of, is_in};
 ghost use Rattle.bands.specs.Bands.{grid_of, bands_of, band_index};

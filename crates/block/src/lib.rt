@@ -1,5 +1,7 @@
 // The block of 100 km that a band, a column and a row letter name, or the number of the rule, 8 to 10, by which they name none; and
 // the point of a bare zone. Every call takes any zone and any letters.
+#![tactic(auto)]
+
 ghost use Rattle.std.specs.Prelude.{◌≡◌, cond, ◌+◌, ◌≤◌, ◌<◌, pos, negsuc, ◌≤ℤ◌};
 ghost use Rattle.letters.specs.Letters.{north_band};
 ghost use Rattle.bands.specs.declared.Grid.TheVariants.{Utm};

@@ -1,4 +1,6 @@
 // The sets of column letters, as tables, and which of them a zone or a UPS band uses.
+#![tactic(auto)]
+
 ghost use Rattle.std.specs.Prelude.{◌≡◌, ◌<◌, pos, ◌-ℤ◌};
 ghost use Rattle.whole.specs.Floor.{floor_mod};
 ghost use Rattle.bands.specs.declared.Grid.TheVariants.{Utm};

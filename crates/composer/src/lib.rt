@@ -1,4 +1,6 @@
 // A point to the parts of its reference, or the number of the rule that forbids writing it.
+#![tactic(auto)]
+
 ghost use Rattle.std.specs.Prelude.{◌≡◌, ◌-◌, ◌≤◌, ◌<◌, pos, negsuc, ◌-ℤ◌, ◌≤ℤ◌};
 ghost use Rattle.position.specs.Squares.{side_length};
 ghost use Rattle.letters.specs.declared.Place.TheVariants.{At};

@@ -1,5 +1,7 @@
 // The calls for C and for Rust. Each hands its arguments on to the call that says what is answered: 0 or more is the answer,
 // below 0 is minus the refusal's number, and a refusal leaves every lent element as it was.
+#![tactic(auto)]
+
 ghost use Rattle.std.specs.Prelude.{◌≡◌, length};
 ghost use Rattle.zones.specs.Zones.{band_of, zone_of};
 ghost use Rattle.ranges.specs.Ranges.{utm_check};

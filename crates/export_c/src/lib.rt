@@ -1,4 +1,6 @@
 // The archive's names for C and for Rust: each is the call of `export` that has its name, with the same promise.
+#![tactic(auto)]
+
 ghost use Rattle.std.specs.Prelude.{◌≡◌, length};
 ghost use Rattle.zones.specs.Zones.{band_of, zone_of};
 ghost use Rattle.ranges.specs.Ranges.{utm_check};

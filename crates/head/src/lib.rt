@@ -1,4 +1,6 @@
 // The head of a text: its zone and its band letter, or the number of the rule, 1 to 6, by which it is turned away.
+#![tactic(auto)]
+
 ghost use Rattle.std.specs.Prelude.{◌≡◌, ◌≤◌, eqb};
 ghost use Rattle.letters.specs.Letters.{capital_of};
 ghost use Rattle.head.specs.Head.{is_inv, zone_wrong, head_of};

@@ -6,7 +6,6 @@ use mathlib.Core.List.{List}
 use Prim.Native.Nat.{ℕ, ◌+◌}
 use native.Mathlib.Omega.{arith}
 use borrow.Author.Tests.{ne_eqb}
-use lib.IntN.{pos, ◌-ℤ◌}
 use lib.ListN.{length}
 use Rattle.whole.proofs.Parts.{clash}
 use Rattle.letters.specs.Letters.{first_tile, north_band}

@@ -5,7 +5,7 @@ use mathlib.Core.Bool.{Bool, true, false, cond}
 use Prim.Native.Nat.{ℕ, ◌+◌, ◌-◌}
 use native.Mathlib.Omega.{arith}
 use borrow.Author.Tests.{le-ltb}
-use lib.IntN.{ℤ, pos, ◌-ℤ◌}
+use lib.IntN.{ℤ, pos}
 use lib.Signed.{lt_z}
 use Rattle.whole.proofs.Parts.{clash}
 use Rattle.bands.specs.declared.Grid.TheVariants.{Ups}

@@ -1,4 +1,6 @@
 // The letters of document 01, and how one is looked up in a set of them: `bands`, `columns` and `row_letters` have the sets' tables.
+#![tactic(auto)]
+
 ghost use Rattle.std.specs.Prelude.{◌≡◌, get_or};
 ghost use Rattle.letters.specs.Letters.{capital_of, north_band, east_band};
 ghost use Rattle.letters.specs.Search.{confirm, skipped_of, skipped_low, skipped_high, skipped_in_columns, skipped_in_bands, behind_of};

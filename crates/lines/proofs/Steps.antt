@@ -9,7 +9,7 @@ use native.Mathlib.Omega.{arith}
 use borrow.Author.Tests.{lt-ltb, le-ltb, ltb-true, ltb-false}
 use lib.Dec.{ltb}
 use lib.ListN.{length, take, drop, get_or, set, length-set, length-append, length-take, length-drop, take-append-drop, drop_of_length-le}
-use lib.Seq.{drop-cons, take-suc, set_at, append_snoc, get_or-append-add, get_or-drop, take_all, take_at, drop_at, drop-drop, length-take-le, take-length}
+use lib.Seq.{drop-cons, take-suc, set_at, append_snoc, get_or-append-add, get_or-drop, take_all, take_at, drop_at, drop-drop, length-take-le}
 use Rattle.lines.specs.inner.Feeds.{index_of}
 use Rattle.reader.specs.declared.Answer.{Answer}
 use Rattle.listing.specs.Listing.{line_of}

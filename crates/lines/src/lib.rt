@@ -1,4 +1,6 @@
 // The lines of an input that comes in blocks, each answered once and in order, in fixed memory.
+#![tactic(auto)]
+
 ghost use Rattle.std.specs.Prelude.{◌≡◌, ◌++◌, ◌+◌, ◌-◌, ◌≤◌, min, length, take, drop};
 ghost use Rattle.listing.specs.Listing.{read_by, line_of};
 ghost use Rattle.lines.specs.inner.Feeds.{index_of};

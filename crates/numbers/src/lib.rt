@@ -1,5 +1,7 @@
 // Each answer as one i64: 0 or more is the answer, below 0 is minus the refusal's number. A refusal alters no lent byte. Rows,
 // which are below 0 in the south, are never refused.
+#![tactic(auto)]
+
 ghost use Rattle.std.specs.Prelude.{◌≡◌, length};
 ghost use Rattle.zones.specs.Zones.{zone_of};
 ghost use Rattle.ranges.specs.Ranges.{utm_check};

@@ -1,4 +1,6 @@
 // Positions: what a reference stands for, its parts, and the square of p digits around it.
+#![tactic(auto)]
+
 ghost use Rattle.std.specs.Prelude.{◌≡◌};
 ghost use Rattle.position.specs.Squares.{half_of, side_length, corner_of, south_west};
 ghost use Rattle.position.specs.inner.Counts.{count_of};

@@ -1,4 +1,6 @@
 // The ranges of eastings and northings, of UTM and of UPS, and the edge rules. Every call takes any numbers.
+#![tactic(auto)]
+
 ghost use Rattle.std.specs.Prelude.{◌≡◌, true, false, pos, negsuc, ◌≤ℤ◌};
 ghost use Rattle.std.specs.Int.{w64};
 ghost use Rattle.std.proofs.Common.{SFits};

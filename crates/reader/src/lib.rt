@@ -1,5 +1,7 @@
 // Reads a reference: bytes to parts, parts to a position, or the number of the rule by which the text is turned away. The head, the
 // block and the digits are calls of their own; here they come together.
+#![tactic(auto)]
+
 ghost use Rattle.std.specs.Prelude.{◌≡◌, true, ◌+◌, ◌*◌, ◌^◌, ◌≤◌, ◌<◌, pos, length};
 ghost use Rattle.reader.specs.Read.{square_of, full_of, tail_of, read_of};
 ghost use Rattle.position.specs.inner.Counts.{count_of, exact};

@@ -6,7 +6,7 @@ use mathlib.Core.List.{List, [], ◌∷◌, ◌++◌}
 use Prim.Native.Nat.{ℕ, ◌%◌, ◌≤◌}
 use borrow.Author.Tests.{eqb-true}
 use lib.Dec.{T, eqb, ltb, leb, leb→le}
-use lib.IntN.{ℤ, pos, negsuc, ◌-ℤ◌}
+use lib.IntN.{ℤ, pos, negsuc}
 use lib.ListN.{length, drop}
 use lib.Signed.{lt_z, le_z}
 use Rattle.whole.specs.Compare.{outside}

@@ -1,4 +1,6 @@
 // The sets of row letters, as tables, and which of them a zone or a UPS hemisphere uses.
+#![tactic(auto)]
+
 ghost use Rattle.std.specs.Prelude.{◌≡◌};
 ghost use Rattle.letters.specs.Letters.{UtmRows, place_of, letter_at, first_tile, tile_in};
 ghost use Rattle.row_letters.specs.RowLetters.{ups_rows, rows_of};

@@ -1,4 +1,6 @@
 // The 100 km rows that a latitude band and a column allow, and the row that a row letter means.
+#![tactic(auto)]
+
 ghost use Rattle.std.specs.Prelude.{◌≡◌, ◌<◌, ◌%◌, pos, negsuc, ◌-ℤ◌, ◌≤ℤ◌};
 ghost use Rattle.rows.specs.inner.Direct.{pair_of, allowed_by, candidate_from};
 ghost use Rattle.rows.specs.Limits.{limits_of};

@@ -1,6 +1,5 @@
 -- What follows the row letter, refusals 11, 12 and 13 in their order: document 01, "Reading bytes". Assumes nothing.
 use Rattle.std.specs.Prelude.{cond, not, List, ℕ, ◌/◌, ◌%◌, eqb, ltb, pos, length, take, drop}
-use Rattle.runs.specs.declared.Digits.{Digits}
 use Rattle.runs.specs.declared.DigitsAnswer.{DigitsAnswer}
 use Rattle.runs.specs.declared.DigitsAnswer.TheVariants.{Halves, NoHalves}
 use Rattle.words.specs.Bytes.{all_digits}

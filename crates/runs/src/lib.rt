@@ -1,5 +1,7 @@
 // The numbers in a text: the digits that lead, and the two numbers that the digits after the row letter halve into. Every call takes
 // any slice. That all are digits is seen before their numbers are worked out; of the digits that lead none past 60 is looked at.
+#![tactic(auto)]
+
 ghost use Rattle.std.specs.Prelude.{◌≡◌, true, ◌+◌, ◌-◌, ◌*◌, ◌≤◌, ◌<◌, length, take, drop};
 ghost use Rattle.words.specs.Bytes.{is_digit, all_digits};
 ghost use Rattle.runs.specs.Runs.{value_of, zone_lead};

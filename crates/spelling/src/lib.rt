@@ -1,4 +1,6 @@
 // Digits to be written, eight at a time.
+#![tactic(auto)]
+
 ghost use Rattle.std.specs.Prelude.{◌≡◌};
 ghost use Rattle.runs.specs.Runs.{last_digits};
 ghost use Rattle.words.specs.Words.{word_of};

@@ -1,4 +1,6 @@
 // References and their squares: a reference at fewer digits, and whether one reference covers another.
+#![tactic(auto)]
+
 ghost use Rattle.std.specs.Prelude.{◌≡◌, true, ◌&&◌, eqb, length};
 ghost use Rattle.whole.specs.Compare.{same};
 ghost use Rattle.position.specs.inner.Counts.{exact};

@@ -1,4 +1,6 @@
 // Writing and then reading, through the calls themselves.
+#![tactic(auto)]
+
 ghost use Rattle.std.specs.Prelude.{◌≡◌};
 ghost use Rattle.laws.specs.Trips.{back_of};
 

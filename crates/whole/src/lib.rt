@@ -1,4 +1,6 @@
 // Whole numbers: ranges, division of a signed number that rounds down, and powers of ten.
+#![tactic(auto)]
+
 ghost use Rattle.std.specs.Prelude.{◌≡◌};
 ghost use Rattle.whole.specs.Compare.{outside};
 ghost use Rattle.whole.specs.Floor.{fold, floor_div, floor_mod};

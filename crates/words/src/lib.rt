@@ -1,5 +1,7 @@
 // Bytes of a text, many at a time: whether one of 128 or more stands anywhere, whether all are digits, eight as one number.
 // Every call takes any slice and looks at each of its bytes once; some bytes of 8 to 32 stand in two steps of eight or sixteen.
+#![tactic(auto)]
+
 ghost use Rattle.std.specs.Prelude.{◌≡◌, true, ◌+◌, ◌≤◌, length, take, drop};
 ghost use Rattle.words.specs.Bytes.{is_digit, all_digits, has_high};
 ghost use Rattle.words.specs.Words.{word_of, first_word};

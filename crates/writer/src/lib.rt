@@ -1,4 +1,6 @@
 // Writes a reference: the parts of a point to bytes in a lent buffer, or the number of the rule that forbids it.
+#![tactic(auto)]
+
 ghost use Rattle.std.specs.Prelude.{◌≡◌, ◌+◌, ◌≤◌, length};
 ghost use Rattle.std.proofs.lemmas.List.Edits.{sets};
 ghost use Rattle.whole.specs.Floor.{fold};

@@ -1,4 +1,6 @@
 // The latitude band and the standard zone of a latitude and a longitude, both in billionths of a degree.
+#![tactic(auto)]
+
 ghost use Rattle.std.specs.Prelude.{◌≡◌, pos, negsuc, ◌≤ℤ◌};
 ghost use Rattle.zones.specs.Zones.{degrees, band_of, turned, plain, norway, arctic, svalbard, zone_at, zone_of};
 

@@ -1,7 +1,6 @@
 -- `arrays::mgrs_check_coords` meets its contract, by what `ranges::mgrs_check_coords` ensures.
 -- Assumes nothing.
 use mathlib.Core.Path.{◌≡◌, refl, sym, ◌∙◌}
-use borrow.Author.Rules.{rules}
 use mir.Syntax.{w64}
 use mir.Facts.{to_z-of_z}
 use Rattle.whole.proofs.Signed.{back}

@@ -1,7 +1,6 @@
 -- `arrays::read` meets its contract, by what `reader::read` ensures.
 -- Assumes nothing.
 use mathlib.Core.Path.{refl, sym, ◌∙◌}
-use borrow.Author.Rules.{rules}
 use Rattle.whole.proofs.Signed.{back}
 use Rattle.refusals.proofs.Refusals.{reading, read_refusals}
 use Rattle.refusals.proofs.Room.{as_byte}

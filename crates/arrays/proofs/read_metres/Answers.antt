@@ -1,7 +1,6 @@
 -- `arrays::read_metres` meets its contract, by what `reader::read_metres` ensures.
 -- Assumes nothing.
 use mathlib.Core.Path.{refl, sym, ◌∙◌}
-use borrow.Author.Rules.{rules}
 use Rattle.whole.proofs.Signed.{back}
 use Rattle.refusals.proofs.Refusals.{reading, metres_refusals}
 use Rattle.refusals.proofs.Room.{as_byte}

@@ -1,7 +1,6 @@
 -- `bands::band_index` meets its contract, by what `utm_place` ensures.
 -- Assumes nothing.
 use mathlib.Core.Path.{sym, ◌∙◌}
-use borrow.Author.Rules.{rules}
 use Rattle.bands.specs.Bands.{band_index}
 use Rattle.bands.proofs.band_index.Goals as goal
 

@@ -1,7 +1,6 @@
 -- `bands::is_band` meets its contract: each grid has its set.
 -- Assumes nothing.
 use mathlib.Core.Path.{◌≡◌, sym, ◌∙◌}
-use borrow.Author.Rules.{rules}
 use mir.Facts.{to_z-of_z}
 use Rattle.letters.specs.Letters.{place_of, place_from, is_in}
 use Rattle.bands.specs.Bands.{grid_of, bands_of}

@@ -1,7 +1,6 @@
 -- `bands::is_ups_band` meets its contract, by what `ups_place` ensures.
 -- Assumes nothing.
 use mathlib.Core.Path.{sym, ◌∙◌}
-use borrow.Author.Rules.{rules}
 use Rattle.letters.specs.Letters.{is_in}
 use Rattle.bands.proofs.is_ups_band.Goals as goal
 

@@ -1,7 +1,6 @@
 -- `bands::ups_place` meets its contract: a guess that is right of the set is confirmed.
 -- Assumes nothing.
 use mathlib.Core.Path.{◌∙◌}
-use borrow.Author.Rules.{rules}
 use Rattle.bands.proofs.Guesses.{ups_bands}
 use Rattle.bands.proofs.ups_place.Goals as goal
 

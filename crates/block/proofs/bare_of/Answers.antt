@@ -1,6 +1,5 @@
 -- `block::bare_of` meets its contract, by what the functions of its coordinates ensure.
 -- Assumes nothing.
-use borrow.Author.Rules.{rules}
 use mir.Facts.{to_z-of_z}
 use Rattle.whole.proofs.Signed.{back}
 use Rattle.block.specs.Bare.{bare_of}

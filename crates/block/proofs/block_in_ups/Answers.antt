@@ -2,7 +2,6 @@
 -- Assumes nothing.
 use mathlib.Core.Path.{◌≡◌, sym, ◌∙◌}
 use native.Mathlib.Omega.{arith}
-use borrow.Author.Rules.{rules}
 use Rattle.letters.specs.declared.Place.TheVariants.{At}
 use Rattle.letters.specs.Letters.{tile_in, north_band}
 use Rattle.letters.proofs.Places.{tile_lt}

@@ -1,7 +1,6 @@
 -- `block::block_in_utm` meets its contract, by what the places and the row ensure.
 -- Assumes nothing.
 use mathlib.Core.Path.{◌≡◌, sym, ◌∙◌}
-use borrow.Author.Rules.{rules}
 use lib.Dec.{lit≤}
 use mir.Facts.{to_z-of_z}
 use Rattle.letters.specs.declared.Place.TheVariants.{At}

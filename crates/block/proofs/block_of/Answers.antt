@@ -1,7 +1,6 @@
 -- `block::block_of` meets its contract: each grid has its call, and zone 0 alone is UPS.
 -- Assumes nothing.
 use mathlib.Core.Path.{◌≡◌, sym, ◌∙◌}
-use borrow.Author.Rules.{rules}
 use mir.Facts.{to_z-of_z}
 use Rattle.bands.specs.Bands.{grid_of}
 use Rattle.bands.proofs.ZoneNumber.{ups_zone}

@@ -1,7 +1,6 @@
 -- `block::tiles_more` meets its contract, by what `is_north` ensures.
 -- Assumes nothing.
 use mathlib.Core.Path.{sym, ◌∙◌}
-use borrow.Author.Rules.{rules}
 use Rattle.block.proofs.tiles_more.Goals as goal
 
 pub returns-then-is_north : goal.returns-then-is_north

@@ -1,7 +1,6 @@
 -- `block::utm_block` meets its contract, by what the band's place and resolution ensure; its row is one of -90..94.
 -- Assumes nothing.
 use mathlib.Core.Path.{◌≡◌, ap, sym, ◌∙◌}
-use borrow.Author.Rules.{rules}
 use native.Mathlib.Omega.{arith}
 use lib.Dec.{lit≤}
 use Prim.Native.Nat.{ℕ}

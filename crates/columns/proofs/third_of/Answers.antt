@@ -1,7 +1,6 @@
 -- `columns::third_of` meets its contract: a UTM zone less one is a number that fits.
 -- Assumes nothing.
 use mathlib.Core.Path.{◌≡◌}
-use borrow.Author.Rules.{rules}
 use lib.Dec.{lit<}
 use lib.IntN.{pos, ◌-ℤ◌}
 use mir.Facts.{to_z-of_z}

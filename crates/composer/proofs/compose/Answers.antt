@@ -12,7 +12,6 @@ use Rattle.ranges.specs.declared.MgrsCheck.TheVariants.{Moved}
 use Rattle.ranges.specs.Edges.{mgrs_check}
 use Rattle.ranges.proofs.Reach.{east_least}
 use Rattle.composer.specs.Compose.{composed}
-use borrow.Author.Rules.{rules}
 use Rattle.composer.proofs.compose.Goals as goal
 use Rattle.composer.proofs.compose.Goals.{After-fold_of-e, After-fold_of-n, After-is_outside, After-is_outside-2, After-mgrs_check_coords, Else-is_outside-2, In-Moved}
 

@@ -7,7 +7,6 @@ use Rattle.letters.specs.declared.Place.TheVariants.{At}
 use Rattle.letters.specs.Letters.{place_of}
 use Rattle.bands.specs.Bands.{bands_of}
 use Rattle.composer.specs.Compose.{composed_at}
-use borrow.Author.Rules.{rules}
 use Rattle.composer.proofs.compose_at.Goals as goal
 use Rattle.composer.proofs.compose_at.Goals.{After-band_place, In-At}
 

@@ -5,7 +5,6 @@ use Rattle.whole.proofs.Signed.{back}
 use Rattle.letters.proofs.Places.{place_lt}
 use Rattle.bands.proofs.Index.{found_index}
 use Rattle.composer.specs.Compose.{utm_fits, fits}
-use borrow.Author.Rules.{rules}
 use Rattle.composer.proofs.is_fitting.Goals as goal
 
 pub returns-then-zone-lt1 : goal.returns-then-zone-lt1

@@ -2,7 +2,6 @@
 -- Assumes nothing.
 use mir.Facts.{to_z-of_z}
 use Rattle.composer.specs.Compose.{parts_at}
-use borrow.Author.Rules.{rules}
 use Rattle.composer.proofs.parts_at.Goals as goal
 
 pub returns : goal.returns

@@ -5,7 +5,6 @@ use Rattle.rows.specs.Letters.{shift_of}
 use mir.Facts.{to_z-of_z}
 use Rattle.whole.proofs.Signed.{back}
 use Rattle.composer.specs.Compose.{row_letter}
-use borrow.Author.Rules.{rules}
 use Rattle.composer.proofs.row_letter.Goals as goal
 
 pub returns-then-zone-lt1 : goal.returns-then-zone-lt1

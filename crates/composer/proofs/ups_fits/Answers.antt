@@ -2,7 +2,6 @@
 -- Assumes nothing.
 use mathlib.Core.Path.{sym, ◌∙◌}
 use Rattle.composer.specs.Compose.{ups_fits}
-use borrow.Author.Rules.{rules}
 use Rattle.composer.proofs.ups_fits.Goals as goal
 
 pub returns-then-do_agree : goal.returns-then-do_agree

@@ -1,6 +1,5 @@
 -- `export::mgrs_check_coords` meets its contract, by what `arrays::mgrs_check_coords` ensures.
 -- Assumes nothing.
-use borrow.Author.Rules.{rules}
 use mir.Facts.{to_z-of_z}
 use Rattle.whole.proofs.Signed.{back}
 use Rattle.export.proofs.mgrs_check_coords.Goals as goal

@@ -1,6 +1,5 @@
 -- `export::mgrs_covers` meets its contract, by what `numbers::covers` ensures.
 -- Assumes nothing.
-use borrow.Author.Rules.{rules}
 use Rattle.whole.proofs.Signed.{back}
 use Rattle.export.proofs.mgrs_covers.Goals as goal
 

@@ -1,7 +1,6 @@
 -- `export::mgrs_latitude_band` meets its contract, by what `zones::to_latitude_band` ensures.
 -- Assumes nothing.
 use mathlib.Core.Path.{ap, ◌∙◌}
-use borrow.Author.Rules.{rules}
 use mir.Facts.{to_z-of_z}
 use Rattle.whole.proofs.Signed.{back}
 use Rattle.zones.specs.Zones.{band_of}

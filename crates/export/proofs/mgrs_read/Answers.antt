@@ -1,6 +1,5 @@
 -- `export::mgrs_read` meets its contract, by what `arrays::read` ensures.
 -- Assumes nothing.
-use borrow.Author.Rules.{rules}
 use Rattle.whole.proofs.Signed.{back}
 use Rattle.export.proofs.mgrs_read.Goals as goal
 

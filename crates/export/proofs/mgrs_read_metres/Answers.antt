@@ -1,6 +1,5 @@
 -- `export::mgrs_read_metres` meets its contract, by what `arrays::read_metres` ensures.
 -- Assumes nothing.
-use borrow.Author.Rules.{rules}
 use Rattle.whole.proofs.Signed.{back}
 use Rattle.export.proofs.mgrs_read_metres.Goals as goal
 

@@ -1,6 +1,5 @@
 -- `export::mgrs_standard_zone` meets its contract, by what `numbers::standard_zone` ensures.
 -- Assumes nothing.
-use borrow.Author.Rules.{rules}
 use mir.Facts.{to_z-of_z}
 use Rattle.whole.proofs.Signed.{back}
 use Rattle.export.proofs.mgrs_standard_zone.Goals as goal

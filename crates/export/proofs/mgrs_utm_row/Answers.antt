@@ -1,6 +1,5 @@
 -- `export::mgrs_utm_row` meets its contract, by what `numbers::utm_row` ensures.
 -- Assumes nothing.
-use borrow.Author.Rules.{rules}
 use mir.Facts.{to_z-of_z}
 use Rattle.whole.proofs.Signed.{back}
 use Rattle.export.proofs.mgrs_utm_row.Goals as goal

@@ -1,6 +1,5 @@
 -- `export::mgrs_write` meets its contract, by what `numbers::write` ensures.
 -- Assumes nothing.
-use borrow.Author.Rules.{rules}
 use mir.Syntax.{w64}
 use mir.Facts.{to_z-of_z}
 use Rattle.export.proofs.mgrs_write.Goals as goal

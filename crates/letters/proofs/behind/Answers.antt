@@ -1,7 +1,6 @@
 -- `letters::behind` meets its contract: the sum is the definition's.
 -- Assumes nothing.
 use mathlib.Core.Path.{refl}
-use borrow.Author.Rules.{rules}
 use Rattle.letters.specs.Search.{behind_of}
 use Rattle.letters.proofs.behind.Goals as goal
 

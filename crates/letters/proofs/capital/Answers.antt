@@ -1,6 +1,5 @@
 -- `letters::capital` meets its contract: each return follows from the tests on the way.
 -- Assumes nothing.
-use borrow.Author.Rules.{rules}
 use borrow.Author.Tests.{lt-ltb, le-ltb}
 use Rattle.letters.specs.Letters.{capital_of}
 use Rattle.letters.proofs.capital.Goals as goal

@@ -1,7 +1,6 @@
 -- `letters::confirmed` meets its contract: the tests are the definition's.
 -- Assumes nothing.
 use borrow.Author.Tests.{le-leb, lt-leb, eq-eqb, ne_eqb}
-use borrow.Author.Rules.{rules}
 use Rattle.letters.specs.Search.{confirm}
 use Rattle.letters.proofs.confirmed.Goals as goal
 

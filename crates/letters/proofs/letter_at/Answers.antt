@@ -1,7 +1,6 @@
 -- `letters::letter_at` meets its contract: past the end a list has its default.
 -- Assumes nothing.
 use mathlib.Core.Path.{sym}
-use borrow.Author.Rules.{rules}
 use lib.ListN.{get_or-eq_default}
 use Rattle.letters.proofs.letter_at.Goals as goal
 

@@ -1,7 +1,6 @@
 -- `letters::skipped_in_columns` meets its contract: the sum is the definition's, and small.
 -- Assumes nothing.
 use native.Mathlib.Omega.{arith}
-use borrow.Author.Rules.{rules}
 use Rattle.letters.specs.Search.{skipped_in_columns}
 use Rattle.letters.proofs.Confirm.{low_le, high_le}
 use Rattle.letters.proofs.skipped_in_columns.Goals as goal

@@ -2,7 +2,6 @@
 -- Assumes nothing.
 use mathlib.Core.Path.{sym, ◌∙◌}
 use native.Mathlib.Omega.{arith}
-use borrow.Author.Rules.{rules}
 use Rattle.lines.specs.inner.Steps.{finish_run, finish_out}
 use Rattle.lines.proofs.Runs.{last_none, last_full, last_fits, finish_run_lem, finish_out_lem}
 use Rattle.lines.proofs.finish.Goals as goal

@@ -2,11 +2,10 @@
 -- Assumes nothing.
 use mathlib.Core.Path.{◌≡◌, ap, ◌∙◌}
 use mathlib.Core.List.{◌++◌}
-use Prim.Native.Nat.{ℕ, ◌-◌}
+use Prim.Native.Nat.{ℕ}
 use native.Mathlib.Omega.{arith}
 use lib.ListN.{take, drop}
-use Rattle.lines.proofs.Steps.{Moving, moved}
-use borrow.Author.Rules.{rules}
+use Rattle.lines.proofs.Steps.{moved}
 use Rattle.lines.proofs.keep.Goals as goal
 
 pub loop-at-preserved : goal.loop-at-preserved

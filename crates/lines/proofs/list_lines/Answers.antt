@@ -1,10 +1,6 @@
 -- `lines::list_lines` meets its contract: what is listed so far, with the answer of the rest, is the answer of the whole.
 -- Assumes nothing.
-use borrow.Author.Rules.{rules}
-use Prim.Native.Nat.{◌-◌}
-use lib.ListN.{length}
-use Rattle.listing.specs.Listing.{read_by}
-use Rattle.lines.proofs.Steps.{Going, begins, turned, stopped, listed}
+use Rattle.lines.proofs.Steps.{begins, turned, stopped, listed}
 use Rattle.lines.proofs.list_lines.Goals as goal
 
 pub loop-feed-init : goal.loop-feed-init

@@ -1,10 +1,9 @@
 -- `lines::list_lines` meets its contract: what is listed so far, with the answer of the rest, is the answer of the whole.
 -- Assumes nothing.
-use borrow.Author.Rules.{rules}
 use Prim.Native.Nat.{◌-◌}
 use lib.ListN.{length}
 use Rattle.listing.specs.Listing.{read_by}
-use Rattle.lines.proofs.Steps.{Going, begins, turned, stopped, listed}
+use Rattle.lines.proofs.Steps.{Going}
 use Rattle.lines.proofs.list_lines.Given as goal
 
 abbrev pub invariant-loop-feed : goal.invariant-loop-feed

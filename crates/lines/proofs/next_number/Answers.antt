@@ -2,7 +2,6 @@
 -- Assumes nothing.
 use borrow.Author.Tests.{lt-ltb, le-ltb}
 use Rattle.lines.specs.inner.Steps.{top, next_of}
-use borrow.Author.Rules.{rules}
 use Rattle.lines.proofs.next_number.Goals as goal
 
 pub returns-then-number-lt18446744073709551615 : goal.returns-then-number-lt18446744073709551615

@@ -5,7 +5,6 @@ use native.Mathlib.Omega.{arith}
 use lib.ListN.{length-take, length-drop}
 use Rattle.writer.proofs.Fit.{fitted}
 use Rattle.lines.proofs.Steps.{put_fits, put_full}
-use borrow.Author.Rules.{rules}
 use Rattle.lines.proofs.put_line.Goals as goal
 
 pub overflow_add-result : goal.overflow_add-result

@@ -2,7 +2,6 @@
 -- Assumes nothing.
 use mathlib.Core.Path.{◌∙◌}
 use Rattle.lines.proofs.Runs.{received_none, received_some}
-use borrow.Author.Rules.{rules}
 use Rattle.lines.proofs.received.Goals as goal
 
 pub returns-then-n-eq0 : goal.returns-then-n-eq0

@@ -2,7 +2,6 @@
 -- Assumes nothing.
 use native.Mathlib.Omega.{arith}
 use Rattle.lines.proofs.Runs.{written_some, written_all}
-use borrow.Author.Rules.{rules}
 use Rattle.lines.proofs.written.Goals as goal
 
 pub returns-then-n-run : goal.returns-then-n-run

@@ -1,6 +1,5 @@
 -- `listing::list_line` meets its contract: plain text is read by `read`.
 -- Assumes nothing.
-use borrow.Author.Rules.{rules}
 use Rattle.listing.specs.Listing.{read_by}
 use Rattle.listing.proofs.list_line.Goals as goal
 

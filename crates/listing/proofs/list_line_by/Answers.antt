@@ -1,9 +1,8 @@
 -- `listing::list_line_by` meets its contract: the line stands at the end of 128 bytes, and is copied where it fits.
 -- Assumes nothing.
-use mathlib.Core.Path.{◌≡◌, refl}
+use mathlib.Core.Path.{◌≡◌}
 use Rattle.listing.specs.Listing.{read_by, line_of}
 use Rattle.listing.proofs.Texts.{short, fits}
-use borrow.Author.Rules.{rules}
 use lib.ListN.{drop}
 use Rattle.listing.proofs.list_line_by.Goals as goal
 use Rattle.listing.proofs.list_line_by.Goals.{After-put_answer-at}

@@ -1,6 +1,5 @@
 -- `listing::put_answer` meets its contract, by what is put for each answer.
 -- Assumes nothing.
-use borrow.Author.Rules.{rules}
 use Rattle.listing.proofs.put_answer.Goals as goal
 
 pub returns-in-Square : goal.returns-in-Square

@@ -1,6 +1,5 @@
 -- `listing::put_eight` meets its contract: the first four bytes and the last four are the eight digits.
 -- Assumes nothing.
-use borrow.Author.Rules.{rules}
 use Rattle.listing.proofs.Bytes.{eight_stored}
 use Rattle.listing.proofs.put_eight.Goals as goal
 

@@ -2,7 +2,6 @@
 -- Assumes nothing.
 use native.Mathlib.Omega.{arith}
 use lib.ListN.{length-set}
-use borrow.Author.Rules.{rules}
 use Rattle.listing.proofs.Bytes.{four_stored}
 use Rattle.listing.proofs.put_four.Goals as goal
 

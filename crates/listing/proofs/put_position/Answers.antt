@@ -6,7 +6,6 @@ use Prim.Native.Nat.{ℕ, ◌≤◌}
 use native.Mathlib.Omega.{arith}
 use lib.ListN.{length, drop_of_length-le}
 use Rattle.listing.specs.Listing.{zone_text, units_text}
-use borrow.Author.Rules.{rules}
 use Rattle.listing.proofs.put_position.Goals as goal
 
 pub returns : goal.returns

@@ -4,7 +4,6 @@ use Prim.Native.Nat.{◌≤◌}
 use native.Mathlib.Omega.{arith}
 use lib.ListN.{length, drop_of_length-le}
 use Rattle.listing.proofs.Texts.{refusal_made}
-use borrow.Author.Rules.{rules}
 use Rattle.listing.proofs.put_refusal.Goals as goal
 
 pub returns : goal.returns

@@ -1,15 +1,10 @@
 -- `listing::put_short` meets its contract: the digits that are left, and then what stands already, are the whole.
 -- Assumes nothing.
-use mathlib.Core.Path.{◌≡◌, refl, sym, ap, ◌∙◌}
-use mathlib.Core.List.{List, ◌∷◌, ◌++◌}
-use Prim.Native.Nat.{ℕ, zero, suc, ◌+◌, ◌/◌, ◌%◌, ◌^◌, ◌≤◌, ◌<◌}
-use native.Mathlib.Nat.{lt_of_lt_of_le}
-use native.Mathlib.Omega.{arith}
-use borrow.Author.Rules.{rules}
-use lib.Dec.{lit≤}
+use mathlib.Core.Path.{◌≡◌}
+use mathlib.Core.List.{List, ◌++◌}
+use Prim.Native.Nat.{ℕ, suc, ◌+◌, ◌^◌, ◌≤◌, ◌<◌}
 use lib.ListN.{length, drop}
-use Rattle.listing.specs.Numerals.{digit, numeral, decimal}
-use Rattle.listing.proofs.Numerals.{longer, single, less}
+use Rattle.listing.specs.Numerals.{numeral, decimal}
 use Rattle.listing.proofs.put_short.Given as goal
 
 -- k + 1 digits are left at most, of the twenty from `at` down

@@ -4,7 +4,6 @@ use native.Mathlib.Omega.{arith}
 use mir.Syntax.{w64}
 use mir.Facts.{to_z-of_z}
 use Rattle.listing.proofs.Texts.{zone_made}
-use borrow.Author.Rules.{rules}
 use Rattle.listing.proofs.put_zone.Goals as goal
 
 pub returns : goal.returns

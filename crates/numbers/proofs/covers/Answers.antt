@@ -1,7 +1,6 @@
 -- `numbers::covers` meets its contract, by what `squares::covers` ensures.
 -- Assumes nothing.
 use mathlib.Core.Path.{◌≡◌, sym, ◌∙◌}
-use borrow.Author.Rules.{rules}
 use Rattle.whole.proofs.Signed.{back}
 use Rattle.squares.specs.Covers.{covers_of}
 use Rattle.refusals.proofs.Refusals.{reading, covers_refusals}

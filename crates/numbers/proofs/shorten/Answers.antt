@@ -1,7 +1,6 @@
 -- `numbers::shorten` meets its contract, by what `squares::shorten` ensures.
 -- Assumes nothing.
 use mathlib.Core.Path.{◌≡◌, sym, ap, ◌∙◌}
-use borrow.Author.Rules.{rules}
 use lib.IntN.{ℤ}
 use lib.ListN.{length}
 use mir.Syntax.{w64}

@@ -3,7 +3,6 @@
 use mathlib.Core.Path.{◌≡◌, sym, ◌∙◌}
 use native.Mathlib.Omega.{arith}
 use borrow.Author.Rules.{rules}
-use mir.Syntax.{w64}
 use mir.Facts.{to_z-of_z}
 use Rattle.whole.proofs.Signed.{back}
 use Rattle.zones.specs.Zones.{zone_of}

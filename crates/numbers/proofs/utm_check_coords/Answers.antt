@@ -1,7 +1,6 @@
 -- `numbers::utm_check_coords` meets its contract, by what `ranges::utm_check_coords` ensures.
 -- Assumes nothing.
 use mathlib.Core.Path.{◌≡◌, sym, ◌∙◌}
-use borrow.Author.Rules.{rules}
 use mir.Facts.{to_z-of_z}
 use Rattle.whole.proofs.Signed.{back}
 use Rattle.ranges.specs.Ranges.{utm_check}

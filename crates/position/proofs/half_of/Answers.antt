@@ -1,7 +1,6 @@
 -- `position::half_of` meets its contract, by what `count_of` and `power_of_ten` ensure.
 -- Assumes nothing.
 use mathlib.Core.Path.{◌≡◌, sym, ap, ◌∙◌}
-use borrow.Author.Rules.{rules}
 use Prim.Native.Nat.{◌-◌, ◌≤◌}
 use native.Mathlib.Omega.{arith}
 use Rattle.whole.proofs.Powers.{ten_is}

@@ -1,7 +1,6 @@
 -- `position::side_length` meets its contract, by what `half_of` ensures.
 -- Assumes nothing.
 use mathlib.Core.Path.{◌≡◌}
-use borrow.Author.Rules.{rules}
 use native.Mathlib.Omega.{arith}
 use Rattle.position.specs.Squares.{half_of, side_length}
 use Rattle.position.proofs.Squares.{half_le}

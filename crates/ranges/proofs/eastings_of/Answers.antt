@@ -1,6 +1,5 @@
 -- `ranges::eastings_of` meets its contract.
 -- Assumes nothing.
-use borrow.Author.Rules.{rules}
 use Rattle.ranges.proofs.eastings_of.Goals as goal
 
 pub returns-then-utm : goal.returns-then-utm

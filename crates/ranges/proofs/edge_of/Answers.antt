@@ -3,7 +3,6 @@
 use mathlib.Core.Path.{◌≡◌, sym, subst}
 use lib.Dec.{T}
 use mathlib.Core.Bool.{Bool, true, false}
-use borrow.Author.Rules.{rules}
 use Rattle.whole.proofs.Signed.{back}
 use Rattle.ranges.specs.Ranges.{eastings, northings}
 use Rattle.ranges.specs.Edges.{lowered, edge}

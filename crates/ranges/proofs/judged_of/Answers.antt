@@ -1,7 +1,6 @@
 -- `ranges::judged_of` meets its contract, by what `is_out` ensures of each axis.
 -- Assumes nothing.
 use mathlib.Core.Path.{◌≡◌, sym, ◌∙◌}
-use borrow.Author.Rules.{rules}
 use Rattle.ranges.specs.Ranges.{eastings, northings, moved, outside_of, judged}
 use Rattle.ranges.proofs.Bounds.{east_bounded, north_bounded, moved_fit}
 use mir.Facts.{to_z-of_z}

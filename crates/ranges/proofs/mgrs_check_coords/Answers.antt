@@ -1,7 +1,6 @@
 -- `ranges::mgrs_check_coords` meets its contract, by what `verdict_of` and `edge_of` ensure.
 -- Assumes nothing.
 use mathlib.Core.Path.{◌≡◌, sym, ◌∙◌}
-use borrow.Author.Rules.{rules}
 use Rattle.ranges.specs.Ranges.{verdict}
 use Rattle.ranges.specs.Edges.{mgrs_check}
 use Rattle.ranges.proofs.Edges.{own_grid}

@@ -1,6 +1,5 @@
 -- `ranges::northings_of` meets its contract.
 -- Assumes nothing.
-use borrow.Author.Rules.{rules}
 use mathlib.Core.Path.{◌∙◌}
 use Rattle.ranges.proofs.northings_of.Goals as goal
 

@@ -1,7 +1,6 @@
 -- `ranges::utm_check_coords` meets its contract, by what `verdict_of` ensures.
 -- Assumes nothing.
 use mathlib.Core.Path.{◌≡◌, sym, ◌∙◌}
-use borrow.Author.Rules.{rules}
 use Rattle.position.specs.Units.{tiles}
 use Rattle.ranges.specs.Ranges.{verdict, utm_check}
 use lib.IntN.{pos}

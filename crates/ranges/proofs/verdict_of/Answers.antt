@@ -1,7 +1,6 @@
 -- `ranges::verdict_of` meets its contract, by what `grid_of` and `judged_of` ensure.
 -- Assumes nothing.
 use mathlib.Core.Path.{◌≡◌, sym, ◌∙◌}
-use borrow.Author.Rules.{rules}
 use Rattle.bands.specs.Bands.{grid_of}
 use Rattle.ranges.specs.Ranges.{verdict}
 use mir.Facts.{to_z-of_z}

@@ -1,7 +1,6 @@
 -- `reader::read_metres` meets its contract, by what `read` ensures; what is read is near enough to be exact.
 -- Assumes nothing.
 use mathlib.Core.Path.{◌≡◌, sym, ◌∙◌}
-use borrow.Author.Rules.{rules}
 use Rattle.position.proofs.Exact.{small_exact}
 use Rattle.reader.specs.declared.Answer.TheVariants.{Square, Bare}
 use Rattle.reader.specs.Read.{read_of}

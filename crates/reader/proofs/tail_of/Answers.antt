@@ -1,6 +1,5 @@
 -- `reader::tail_of` meets its contract, by what a bare zone and a full reference ensure.
 -- Assumes nothing.
-use borrow.Author.Rules.{rules}
 use borrow.Author.Tests.{eq-eqb, ne_eqb}
 use mir.Facts.{to_z-of_z}
 use Rattle.reader.specs.Read.{tail_of}

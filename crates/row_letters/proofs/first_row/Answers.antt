@@ -1,7 +1,6 @@
 -- `row_letters::first_row` meets its contract: the first tile of each grid's set.
 -- Assumes nothing.
 use mathlib.Core.Path.{◌≡◌, sym, ◌∙◌}
-use borrow.Author.Rules.{rules}
 use mir.Facts.{to_z-of_z}
 use Rattle.letters.specs.Letters.{first_tile}
 use Rattle.bands.specs.Bands.{grid_of}

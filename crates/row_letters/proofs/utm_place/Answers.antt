@@ -1,7 +1,6 @@
 -- `row_letters::utm_place` meets its contract: a guess that is right of the set is confirmed.
 -- Assumes nothing.
 use mathlib.Core.Path.{◌∙◌}
-use borrow.Author.Rules.{rules}
 use Rattle.row_letters.proofs.Guesses.{utm_rows}
 use Rattle.row_letters.proofs.utm_place.Goals as goal
 

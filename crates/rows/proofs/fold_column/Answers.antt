@@ -1,6 +1,5 @@
 -- `rows::fold_column` meets its contract.
 -- Assumes nothing.
-use borrow.Author.Rules.{rules}
 use borrow.Author.Tests.{le-leb, lt-leb}
 use Rattle.rows.proofs.fold_column.Goals as goal
 

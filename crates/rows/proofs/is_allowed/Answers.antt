@@ -1,6 +1,5 @@
 -- `rows::is_allowed` meets its contract, by what the functions that it calls ensure.
 -- Assumes nothing.
-use borrow.Author.Rules.{rules}
 use mir.Facts.{to_z-of_z}
 use Rattle.rows.specs.Allowed.{allowed}
 use Rattle.rows.proofs.is_allowed.Goals as goal

@@ -1,8 +1,6 @@
 -- `rows::pair_at` meets its contract: the table is the list of the limits, by computation.
 -- Assumes nothing.
 use mathlib.Core.Path.{refl}
-use native.Mathlib.Omega.{arith}
-use borrow.Author.Rules.{rules}
 use lib.IntN.{pos, ◌-ℤ◌}
 use Rattle.whole.proofs.Table.{row}
 use Rattle.rows.specs.Limits.{limits_of}

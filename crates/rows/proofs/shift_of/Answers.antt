@@ -1,7 +1,6 @@
 -- `rows::shift_of` meets its contract, by what `floor_mod` ensures.
 -- Assumes nothing.
 use mathlib.Core.Path.{◌≡◌}
-use borrow.Author.Rules.{rules}
 use borrow.Author.Tests.{eq-eqb, ne_eqb}
 use mir.Facts.{to_z-of_z}
 use Rattle.whole.specs.Floor.{floor_mod}

@@ -3,7 +3,6 @@
 use mathlib.Core.Path.{◌≡◌, sym}
 use Prim.Native.Nat.{◌%◌}
 use native.Mathlib.Omega.{arith}
-use borrow.Author.Rules.{rules}
 use mir.Facts.{to_z-of_z}
 use Rattle.rows.proofs.Theorems.{no_letter}
 use Rattle.rows.proofs.utm_row.Goals as goal

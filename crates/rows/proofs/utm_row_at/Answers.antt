@@ -1,7 +1,6 @@
 -- `rows::utm_row_at` meets its contract: less the shift, the letter's place is that of an odd zone, or one round further on.
 -- Assumes nothing.
 use mathlib.Core.Path.{sym, ◌∙◌}
-use borrow.Author.Rules.{rules}
 use mir.Facts.{to_z-of_z}
 use Rattle.rows.proofs.Direct.{unshifted}
 use Rattle.rows.proofs.Theorems.{no_letter, shifted}

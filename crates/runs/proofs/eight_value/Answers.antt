@@ -3,7 +3,6 @@
 use mathlib.Core.Path.{refl}
 use Prim.Native.Nat.{ℕ, ◌+◌, ◌*◌, ◌/◌}
 use native.Mathlib.Omega.{arith}
-use borrow.Author.Rules.{rules}
 use lib.Bits.{bit_and, and_le_r}
 use Rattle.runs.specs.inner.Eight.{eight_of}
 use Rattle.runs.proofs.eight_value.Goals as goal

@@ -1,7 +1,6 @@
 -- `runs::first_value` meets its contract: shifted up, the first digits stand last of eight.
 -- Assumes nothing.
 use mathlib.Core.Path.{◌≡◌, ◌∙◌}
-use borrow.Author.Rules.{rules}
 use lib.ListN.{take, drop}
 use Rattle.words.specs.Words.{word_of}
 use Rattle.words.proofs.Laws.{word_is}

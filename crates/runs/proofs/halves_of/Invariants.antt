@@ -1,21 +1,10 @@
 -- `runs::halves_of` meets its contract: the numbers so far, followed by the rest of the halves, are those of all; i digits are
 -- below 10 to the i. Assumes nothing.
-use mathlib.Core.Path.{◌≡◌, refl, sym, ◌∙◌}
-use mathlib.Core.Bool.{true}
+use mathlib.Core.Path.{◌≡◌}
 use mathlib.Core.List.{List}
-use Prim.Native.Nat.{ℕ, ◌+◌, ◌-◌, ◌*◌, ◌^◌, ◌≤◌, ◌<◌}
-use native.Mathlib.Nat.{pow-succ'}
-use native.Mathlib.Numerals.{add-one}
-use native.Mathlib.Omega.{arith}
-use borrow.Author.Rules.{rules}
-use lib.ListN.{length, get_or, drop, drop_of_length-le}
-use lib.Seq.{drop-cons}
-use mir.Syntax.{w64}
-use mir.Facts.{to_z_pos}
-use Rattle.whole.proofs.Powers.{ten_le}
-use Rattle.words.specs.Bytes.{all_digits}
+use Prim.Native.Nat.{ℕ, ◌-◌, ◌^◌, ◌≤◌, ◌<◌}
+use lib.ListN.{length, drop}
 use Rattle.runs.specs.Runs.{value_from, value_of}
-use Rattle.words.proofs.Laws.{digit_range, digit_at}
 use Rattle.runs.proofs.halves_of.Given as goal
 
 -- the number x of the first i digits, and the digits from there on

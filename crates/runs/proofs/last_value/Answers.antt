@@ -1,7 +1,6 @@
 -- `runs::last_value` meets its contract: shifted down and up again, only the last digits are left.
 -- Assumes nothing.
 use mathlib.Core.Path.{◌≡◌, ◌∙◌}
-use borrow.Author.Rules.{rules}
 use lib.ListN.{take, drop}
 use Rattle.words.specs.Words.{word_of}
 use Rattle.words.proofs.Laws.{word_is}

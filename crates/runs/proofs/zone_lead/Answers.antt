@@ -6,9 +6,8 @@ use Prim.Native.Nat.{ℕ, ◌+◌, ◌-◌, ◌*◌, ◌≤◌, ◌<◌}
 use native.Mathlib.Nat.{zero-add, add-zero}
 use native.Mathlib.Omega.{arith}
 use borrow.Author.Rules.{rules}
-use borrow.Author.Tests.{not-true, not-false, le-ltb, lt-ltb}
+use borrow.Author.Tests.{le-ltb, lt-ltb}
 use lib.ListN.{length, drop}
-use Rattle.runs.specs.declared.Lead.{Lead}
 use Rattle.runs.specs.declared.ZoneLead.TheVariants.{Led, Past}
 use Rattle.runs.specs.Runs.{value_from, leading_digits, lead_of, zone_lead}
 use Rattle.runs.proofs.Laws.{grows, lead_end, lead_stop, lead_more}

@@ -1,17 +1,11 @@
 -- `runs::zone_lead` meets its contract: the digits passed, then the digits from there on, are those that lead; a value of more than
 -- 60 never shrinks. Assumes nothing.
-use mathlib.Core.Path.{◌≡◌, sym, ◌∙◌}
-use mathlib.Core.List.{List, [], ◌∷◌}
-use Prim.Native.Nat.{ℕ, ◌+◌, ◌-◌, ◌*◌, ◌≤◌, ◌<◌}
-use native.Mathlib.Nat.{zero-add, add-zero}
-use native.Mathlib.Omega.{arith}
-use borrow.Author.Rules.{rules}
-use borrow.Author.Tests.{not-true, not-false, le-ltb, lt-ltb}
+use mathlib.Core.Path.{◌≡◌}
+use mathlib.Core.List.{List}
+use Prim.Native.Nat.{ℕ, ◌+◌, ◌-◌, ◌≤◌}
 use lib.ListN.{length, drop}
 use Rattle.runs.specs.declared.Lead.{Lead}
-use Rattle.runs.specs.declared.ZoneLead.TheVariants.{Led, Past}
-use Rattle.runs.specs.Runs.{value_from, leading_digits, lead_of, zone_lead}
-use Rattle.runs.proofs.Laws.{grows, lead_end, lead_stop, lead_more}
+use Rattle.runs.specs.Runs.{value_from, leading_digits, lead_of}
 use Rattle.runs.proofs.zone_lead.Given as goal
 
 -- n digits before these, of the value v

@@ -1,7 +1,6 @@
 -- `spelling::spelled` meets its contract: by the digits, each step is what it is said to be, and no sum wraps.
 -- Assumes nothing.
 use native.Mathlib.Omega.{arith}
-use borrow.Author.Rules.{rules}
 use Rattle.spelling.proofs.Ones.{digits, ones_is, fours_lt, high_le, twos_lt, tens_lt, rest_lt, tens_le}
 use Rattle.spelling.proofs.spelled.Goals as goal
 

@@ -5,7 +5,6 @@ use Rattle.reader.specs.Read.{read_of}
 use Rattle.reader.proofs.Sizes.{square_near}
 use Rattle.position.proofs.Exact.{small_exact}
 use Rattle.squares.proofs.Answers.{covers_by}
-use borrow.Author.Rules.{rules}
 use Rattle.squares.proofs.covers.Goals as goal
 
 pub is_covering-requires : goal.is_covering-requires

@@ -12,7 +12,6 @@ use Rattle.whole.proofs.Signed.{back}
 use Rattle.position.specs.Squares.{side_length, corner_of}
 use Rattle.squares.specs.Covers.{axis_within}
 use Rattle.squares.proofs.Sizes.{side_le, edge_fits}
-use borrow.Author.Rules.{rules}
 use Rattle.squares.proofs.is_axis_within.Goals as goal
 use Rattle.squares.proofs.is_axis_within.Goals.{After-corner_of-inner, After-corner_of-outer, After-side_length, After-side_length-then-outer-inner}
 

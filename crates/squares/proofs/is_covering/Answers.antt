@@ -1,7 +1,6 @@
 -- `squares::is_covering` meets its contract, by area and square.
 -- Assumes nothing.
 use mathlib.Core.Path.{sym, ◌∙◌}
-use borrow.Author.Rules.{rules}
 use Rattle.squares.proofs.is_covering.Goals as goal
 
 pub returns-then-is_same_area : goal.returns-then-is_same_area

@@ -3,7 +3,6 @@
 use mir.Syntax.{w64}
 use mir.Facts.{to_z-of_z}
 use Rattle.squares.specs.Covers.{same_area}
-use borrow.Author.Rules.{rules}
 use Rattle.squares.proofs.is_same_area.Goals as goal
 
 pub returns : goal.returns

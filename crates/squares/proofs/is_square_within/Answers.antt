@@ -4,7 +4,6 @@ use mathlib.Core.Path.{◌≡◌, sym, ◌∙◌}
 use mir.Syntax.{w64}
 use mir.Facts.{to_z-of_z}
 use Rattle.squares.specs.Covers.{axis_within, square_within}
-use borrow.Author.Rules.{rules}
 use Rattle.squares.proofs.is_square_within.Goals as goal
 use Rattle.squares.proofs.is_square_within.Goals.{After-is_axis_within}
 

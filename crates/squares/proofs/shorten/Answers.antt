@@ -3,7 +3,6 @@
 use mathlib.Core.Path.{refl, sym, ◌∙◌}
 use mir.Facts.{to_z-of_z}
 use Rattle.squares.proofs.Answers.{short_by}
-use borrow.Author.Rules.{rules}
 use Rattle.squares.proofs.shorten.Goals as goal
 
 pub returns-in-Refused : goal.returns-in-Refused

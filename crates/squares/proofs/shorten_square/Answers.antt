@@ -6,7 +6,6 @@ use mir.Syntax.{w64}
 use mir.Facts.{to_z-of_z}
 use Rattle.whole.specs.Compare.{outside}
 use Rattle.squares.specs.Shorten.{corner_written, corner_leaves}
-use borrow.Author.Rules.{rules}
 use Rattle.squares.proofs.shorten_square.Goals as goal
 use Rattle.squares.proofs.shorten_square.Goals.{After-is_outside}
 

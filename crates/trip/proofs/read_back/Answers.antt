@@ -9,7 +9,6 @@ use mir.Facts.{to_z-of_z}
 use Rattle.writer.specs.Write.{write_of}
 use Rattle.laws.proofs.Back.{reads_back}
 use Rattle.laws.proofs.Length.{length_rule, refused_back}
-use borrow.Author.Rules.{rules}
 use Rattle.trip.proofs.read_back.Goals as goal
 use Rattle.trip.proofs.read_back.Goals.{After-write, In-Length}
 

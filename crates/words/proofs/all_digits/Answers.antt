@@ -1,7 +1,6 @@
 -- `words::all_digits` meets its contract: the first bytes and the last leave none between them.
 -- Assumes nothing.
 use native.Mathlib.Nat.{le_of_lt}
-use borrow.Author.Rules.{rules}
 use Rattle.words.proofs.High.{all_ends}
 use Rattle.words.proofs.all_digits.Goals as goal
 

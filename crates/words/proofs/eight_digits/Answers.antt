@@ -1,6 +1,5 @@
 -- `words::eight_digits` meets its contract: no bit of 128 stands in what is left exactly if every byte is a digit.
 -- Assumes nothing.
-use borrow.Author.Rules.{rules}
 use Rattle.words.proofs.Words.{word_digits, eight_long}
 use Rattle.words.proofs.eight_digits.Goals as goal
 

@@ -2,7 +2,6 @@
 -- Assumes nothing.
 use mathlib.Core.Path.{ap, ◌∙◌}
 use mathlib.Core.Bool.{not, not-not}
-use borrow.Author.Rules.{rules}
 use Rattle.words.proofs.Words.{word_high, eight_long}
 use Rattle.words.proofs.eight_high.Goals as goal
 

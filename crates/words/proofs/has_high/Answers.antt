@@ -1,7 +1,6 @@
 -- `words::has_high` meets its contract: the first bytes and the last leave none between them.
 -- Assumes nothing.
 use native.Mathlib.Nat.{le_of_lt}
-use borrow.Author.Rules.{rules}
 use Rattle.words.specs.Bytes.{has_high}
 use Rattle.words.proofs.High.{high_split, ends}
 use Rattle.words.proofs.has_high.Goals as goal

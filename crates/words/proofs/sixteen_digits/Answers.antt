@@ -1,6 +1,5 @@
 -- `words::sixteen_digits` meets its contract: the first eight bytes and the last eight are all.
 -- Assumes nothing.
-use borrow.Author.Rules.{rules}
 use Rattle.words.proofs.High.{all_sixteen}
 use Rattle.words.proofs.sixteen_digits.Goals as goal
 

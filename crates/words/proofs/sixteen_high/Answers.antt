@@ -1,6 +1,5 @@
 -- `words::sixteen_high` meets its contract: the first eight bytes and the last eight are all.
 -- Assumes nothing.
-use borrow.Author.Rules.{rules}
 use Rattle.words.specs.Bytes.{has_high}
 use Rattle.words.proofs.High.{high_split, sixteen}
 use Rattle.words.proofs.sixteen_high.Goals as goal

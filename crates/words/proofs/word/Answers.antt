@@ -1,6 +1,5 @@
 -- `words::word` meets its contract: where eight bytes stand they are the number, and else it is 0.
 -- Assumes nothing.
-use borrow.Author.Rules.{rules}
 use borrow.Author.Tests.{lt-ltb, le-ltb}
 use Rattle.words.specs.Words.{first_word}
 use Rattle.words.proofs.word.Goals as goal

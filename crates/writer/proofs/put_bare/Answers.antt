@@ -5,7 +5,6 @@ use lib.ListN.{length}
 use mir.Facts.{to_z-of_z}
 use Rattle.writer.specs.Text.{head_text}
 use Rattle.writer.proofs.Stores.{head_length_lem, short, long}
-use borrow.Author.Rules.{rules}
 use Rattle.writer.proofs.put_bare.Goals as goal
 use Rattle.writer.proofs.put_bare.Goals.{After-head_length-size}
 

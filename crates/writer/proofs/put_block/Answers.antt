@@ -5,7 +5,6 @@ use native.Mathlib.Omega.{arith}
 use lib.ListN.{length, length-set}
 use lib.Seq.{length-sets}
 use Rattle.writer.proofs.Stores.{block_stored}
-use borrow.Author.Rules.{rules}
 use Rattle.writer.proofs.put_block.Goals as goal
 
 pub bounds-out-at-2 : goal.bounds-out-at-2

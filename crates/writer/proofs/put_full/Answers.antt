@@ -11,7 +11,6 @@ use Rattle.whole.specs.Floor.{fold}
 use Rattle.writer.specs.inner.Lengths.{head_length}
 use Rattle.writer.specs.Text.{full_text}
 use Rattle.writer.proofs.Stores.{length_le, full_length, full_stored, short, long}
-use borrow.Author.Rules.{rules}
 use Rattle.writer.proofs.put_full.Goals as goal
 use Rattle.writer.proofs.put_full.Goals.{After-fold_of-p, After-head_length-head, After-struct_told-1}
 

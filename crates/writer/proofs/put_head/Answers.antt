@@ -7,7 +7,6 @@ use lib.IntN.{pos}
 use lib.Signed.{lt_z}
 use mir.Facts.{to_z-of_z}
 use Rattle.writer.proofs.Stores.{ups_length, utm_length, ups_stored, utm_stored}
-use borrow.Author.Rules.{rules}
 use Rattle.writer.proofs.put_head.Goals as goal
 use Rattle.writer.proofs.put_head.Goals.{Else-zone-lt1, Then-zone-lt1}
 

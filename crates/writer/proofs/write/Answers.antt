@@ -17,7 +17,6 @@ use Rattle.writer.specs.Text.{head_text, full_text}
 use Rattle.composer.specs.Compose.{composed}
 use Rattle.writer.specs.Write.{fit_of, leaves_of, write_of, write_leaves}
 use Rattle.composer.proofs.Stages.{few}
-use borrow.Author.Rules.{rules}
 use Rattle.writer.proofs.write.Goals as goal
 use Rattle.writer.proofs.write.Goals.{After-compose}
 

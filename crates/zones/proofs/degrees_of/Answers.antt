@@ -1,7 +1,6 @@
 -- `zones::degrees_of` meets its contract, by what `floor_div` ensures.
 -- Assumes nothing.
 use mir.Facts.{to_z-of_z}
-use borrow.Author.Rules.{rules}
 use Rattle.whole.proofs.Signed.{back}
 use Rattle.zones.specs.Zones.{degrees}
 use Rattle.zones.proofs.degrees_of.Goals as goal

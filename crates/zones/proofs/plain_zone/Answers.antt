@@ -1,6 +1,5 @@
 -- `zones::plain_zone` meets its contract, by what `floor_div` ensures.
 -- Assumes nothing.
-use borrow.Author.Rules.{rules}
 use Rattle.whole.proofs.Signed.{back}
 use lib.Dec.{lit≤}
 use mir.Facts.{to_z-of_z}

@@ -4,7 +4,6 @@ use mathlib.Core.Bool.{true}
 use lib.IntN.{pos}
 use lib.Signed.{lt_z}
 use mathlib.Core.Path.{◌≡◌}
-use borrow.Author.Rules.{rules}
 use Rattle.whole.proofs.Signed.{back}
 use Rattle.zones.specs.Zones.{degrees, turned, zone_of}
 use Rattle.zones.proofs.Degrees.{turned_range}

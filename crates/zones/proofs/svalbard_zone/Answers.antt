@@ -1,7 +1,6 @@
 -- `zones::svalbard_zone` meets its contract, by what `floor_div` ensures.
 -- Assumes nothing.
 use mathlib.Core.Path.{◌≡◌}
-use borrow.Author.Rules.{rules}
 use Rattle.whole.proofs.Signed.{back}
 use lib.Dec.{lit≤}
 use Rattle.whole.specs.Floor.{floor_div}

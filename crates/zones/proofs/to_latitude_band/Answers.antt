@@ -4,7 +4,6 @@ use mathlib.Core.Bool.{true}
 use lib.IntN.{negsuc}
 use lib.Signed.{lt_z}
 use mathlib.Core.Path.{◌≡◌}
-use borrow.Author.Rules.{rules}
 use Rattle.whole.proofs.Signed.{back}
 use Rattle.zones.specs.Zones.{degrees, band_at, band_of}
 use mir.Syntax.{w64}

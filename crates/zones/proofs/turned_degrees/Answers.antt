@@ -1,7 +1,6 @@
 -- `zones::turned_degrees` meets its contract, by what `floor_mod` ensures.
 -- Assumes nothing.
 use mathlib.Core.Path.{◌≡◌}
-use borrow.Author.Rules.{rules}
 use Rattle.whole.proofs.Signed.{back}
 use lib.Dec.{lit<, lit≤}
 use Rattle.whole.specs.Floor.{floor_mod}

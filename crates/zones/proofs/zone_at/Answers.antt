@@ -1,7 +1,6 @@
 -- `zones::zone_at` meets its contract, by what the functions that it calls ensure.
 -- Assumes nothing.
 use mathlib.Core.Path.{◌≡◌, sym, ◌∙◌}
-use borrow.Author.Rules.{rules}
 use Rattle.whole.proofs.Signed.{back}
 use Rattle.zones.specs.Zones.{plain, norway, arctic, zone_at}
 use mir.Syntax.{w64}
