@@ -20,6 +20,7 @@ pub enum Grid {
 }
 
 // UTM from 1 to 60, UPS at 0.
+#[tactic(auto, unfolding(crate::specs::Bands::grid_of))]
 pub fn grid_of(zone: i64) -> Grid
     ensures { result ≡ grid_of zone }
 {

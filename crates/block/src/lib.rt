@@ -28,6 +28,7 @@ fn bare_tile(k: usize) -> i64
     ((160 * k + 19) / 18) as i64 - 85
 }
 
+#[tactic(auto, unfolding(crate::specs::Bare::bare_easting, whole::specs::Compare::is_number))]
 fn bare_easting(zone: i64, band: u8) -> i64
     ensures { result ≡ bare_easting zone band }
 {

@@ -75,10 +75,12 @@ pub fn head_of(s: &[u8]) -> HeadAnswer
         return HeadAnswer::NoStart(3);
     }
     let count = lead.count;
-    if 2 < count {
+    let many = 2 < count;
+    if many {
         return HeadAnswer::NoStart(4);
     }
-    if s.len() <= count {
+    let ended = s.len() <= count;
+    if ended {
         return HeadAnswer::NoStart(5);
     }
     let zone = lead.value as i64;

@@ -23,6 +23,7 @@ pub struct Stretch {
 }
 
 // a-z count as A-Z.
+#[tactic(auto, unfolding(crate::specs::Letters::capital_of))]
 pub fn capital(b: u8) -> u8
     ensures { result ≡ capital_of b }
 {
@@ -86,6 +87,7 @@ pub fn behind(letter: u8, skip: u8, first: u8) -> usize
 }
 
 // How many letters are left out before this one: of I and O;
+#[tactic(auto, unfolding(crate::specs::Search::skipped_of))]
 pub fn skipped(letter: u8) -> u8
     ensures { result ≡ skipped_of letter }
 {

@@ -200,7 +200,8 @@ pub fn finish(buf: &[u8], out: &mut [u8], run: Run) -> Run
     let end = at.end;
     let form = run.form;
     let number = run.number;
-    if from == end {
+    let empty = from == end;
+    if empty {
         return moved(run, number, from, end, at.used, false);
     }
     let put = put_line(form, &buf[from..end], number, out, at.used);

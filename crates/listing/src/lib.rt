@@ -177,6 +177,7 @@ fn put_answer(line: &mut [u8], number: u64, answer: Answer) -> usize
 }
 
 // A line over 64 bytes is not read.
+#[tactic(auto, unfolding(crate::specs::Listing::answer_of, crate::specs::Listing::read_by))]
 fn answer_of(form: Form, text: &[u8]) -> Answer
     ensures { result ≡ answer_of (read_by form) text.now }
 {

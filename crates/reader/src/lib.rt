@@ -81,6 +81,7 @@ fn full_of(zone: i64, band: u8, rest: &[u8]) -> Answer
 }
 
 // From the byte after the band on: a bare zone, 7 to 13 or a square.
+#[tactic(auto, unfolding(crate::specs::Read::tail_of))]
 pub fn tail_of(zone: i64, band: u8, rest: &[u8]) -> Answer
     ensures { result ≡ tail_of zone band rest.now }
 {

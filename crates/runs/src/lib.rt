@@ -42,7 +42,8 @@ pub fn zone_lead(s: &[u8]) -> ZoneLead
             return ZoneLead::Led(Lead { count, value });
         }
         let next = then_digit(value, b);
-        if 60 < next {
+        let past = 60 < next;
+        if past {
             return ZoneLead::Past;
         }
         value = next;

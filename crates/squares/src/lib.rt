@@ -15,6 +15,7 @@ use writer::Written;
 // ---- shortening
 
 // The corner of a square that was read, at q digits.
+#[tactic(auto, unfolding(crate::specs::Shorten::corner_written, crate::specs::Shorten::corner_leaves, position::specs::Squares::south_west))]
 fn shorten_square(x: Position, q: i64, out: &mut [u8]) -> Written
     ensures { (result ≡ shortened (Square x) q (length out.old)) × (out.new ≡ short_left (Square x) q out.old) }
 {

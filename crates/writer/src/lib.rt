@@ -65,7 +65,8 @@ fn put_bare(zone: i64, band: u8, out: &mut [u8]) -> Written
     ensures { (result ≡ fit_of (head_text zone band) (length out.old)) × (out.new ≡ leaves_of (head_text zone band) out.old) }
 {
     let size = head_length(zone);
-    if out.len() < size {
+    let short = out.len() < size;
+    if short {
         return Written::Refused(20);
     }
     put_head(out, zone, band);
@@ -90,7 +91,8 @@ fn put_full(parts: Parts, out: &mut [u8]) -> Written
     let head = head_length(parts.zone);
     let p = whole::fold_of(parts.p) as usize;
     let n = head + 2 + p + p;
-    if n <= out.len() {
+    let fits = n <= out.len();
+    if fits {
         put_head(out, parts.zone, parts.band);
         put_block(out, head, p, parts);
         return Written::Length(n);

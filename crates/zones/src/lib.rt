@@ -12,6 +12,7 @@ fn degrees_of(billionths: i64) -> i64
 }
 
 // The band of a latitude, -10 to 9 for C to X.
+#[tactic(auto, unfolding(crate::specs::Zones::band_of, crate::specs::Zones::band_at))]
 pub fn to_latitude_band(latitude: i64) -> i64
     ensures { result ≡ band_of latitude }
 {
@@ -96,6 +97,7 @@ pub enum ZoneAnswer {
 }
 
 // The zone of a point: UTM from -80 to below 84 degrees, UPS beyond, 22 outside -90..90.
+#[tactic(auto, unfolding(crate::specs::Zones::zone_of))]
 pub fn standard_zone(latitude: i64, longitude: i64) -> ZoneAnswer
     ensures { result ≡ zone_of latitude longitude }
 {

@@ -140,13 +140,13 @@ returns-then-is_zone_wrong c =
 right : (c : Else-is_zone_wrong) → zone_wrong (lead_of c.args.s.now) ≡ false
 right c = sym (wrong (goal.at.Else-is_zone_wrong c).After-is_zone_wrong) ∙ c.if-is_zone_wrong.false
 
-pub returns-then-count-gt2 : goal.returns-then-count-gt2
-returns-then-count-gt2 c =
-    four _ (plain (goal.at.returns-then-count-gt2 c).Else-has_high) (no_inv (goal.at.returns-then-count-gt2 c).Else-is_inv) (right (goal.at.returns-then-count-gt2 c).Else-is_zone_wrong) (rw (lead (goal.at.returns-then-count-gt2 c).In-Led).0 at c.if-count-gt2.true)
+pub returns-then-many : goal.returns-then-many
+returns-then-many c =
+    four _ (plain (goal.at.returns-then-many c).Else-has_high) (no_inv (goal.at.returns-then-many c).Else-is_inv) (right (goal.at.returns-then-many c).Else-is_zone_wrong) (rw (lead (goal.at.returns-then-many c).In-Led).0 at c.if-many.true)
 
-pub returns-then-s-count : goal.returns-then-s-count
-returns-then-s-count c =
-    five _ (plain (goal.at.returns-then-s-count c).Else-has_high) (no_inv (goal.at.returns-then-s-count c).Else-is_inv) (right (goal.at.returns-then-s-count c).Else-is_zone_wrong) (rw (lead (goal.at.returns-then-s-count c).In-Led).0 at c.if-count-gt2.false) (rw (lead (goal.at.returns-then-s-count c).In-Led).0 at c.if-s-count.true)
+pub returns-then-ended : goal.returns-then-ended
+returns-then-ended c =
+    five _ (plain (goal.at.returns-then-ended c).Else-has_high) (no_inv (goal.at.returns-then-ended c).Else-is_inv) (right (goal.at.returns-then-ended c).Else-is_zone_wrong) (rw (lead (goal.at.returns-then-ended c).In-Led).0 at c.if-many.false) (rw (lead (goal.at.returns-then-ended c).In-Led).0 at c.if-ended.true)
 
 pub overflow_cast-zone : goal.overflow_cast-zone
 overflow_cast-zone c =
@@ -168,10 +168,10 @@ has_is c =
 
 pub returns-then-not-is_band : goal.returns-then-not-is_band
 returns-then-not-is_band c =
-    six _ (plain (goal.at.returns-then-not-is_band c).Else-has_high) (no_inv (goal.at.returns-then-not-is_band c).Else-is_inv) (right (goal.at.returns-then-not-is_band c).Else-is_zone_wrong) (rw (lead (goal.at.returns-then-not-is_band c).In-Led).0 at c.if-count-gt2.false) (rw (lead (goal.at.returns-then-not-is_band c).In-Led).0 at c.if-s-count.false)
+    six _ (plain (goal.at.returns-then-not-is_band c).Else-has_high) (no_inv (goal.at.returns-then-not-is_band c).Else-is_inv) (right (goal.at.returns-then-not-is_band c).Else-is_zone_wrong) (rw (lead (goal.at.returns-then-not-is_band c).In-Led).0 at c.if-many.false) (rw (lead (goal.at.returns-then-not-is_band c).In-Led).0 at c.if-ended.false)
     (sym (has_is (goal.at.returns-then-not-is_band c).After-is_band) ∙ c.if-not-is_band.true)
 
 pub returns : goal.returns
 returns c =
-    start _ (plain (goal.at.returns c).Else-has_high) (no_inv (goal.at.returns c).Else-is_inv) (right (goal.at.returns c).Else-is_zone_wrong) (rw (lead (goal.at.returns c).In-Led).0 at c.if-count-gt2.false) (rw (lead (goal.at.returns c).In-Led).0 at c.if-s-count.false)
+    start _ (plain (goal.at.returns c).Else-has_high) (no_inv (goal.at.returns c).Else-is_inv) (right (goal.at.returns c).Else-is_zone_wrong) (rw (lead (goal.at.returns c).In-Led).0 at c.if-many.false) (rw (lead (goal.at.returns c).In-Led).0 at c.if-ended.false)
     _ _ _ (zone (goal.at.returns c).After-struct_known-1) (band (goal.at.returns c).After-capital-band) (sym (has_is (goal.at.returns c).After-is_band) ∙ c.if-not-is_band.false) (rw (lead (goal.at.returns c).In-Led).0)

@@ -49,11 +49,11 @@ step c =
     let d = sym c.is_digit.ensures ∙ c.if-not-is_digit.false in
     rw c.then_digit-next.ensures (c.loop-count.invariant.1 ∙ turn _ _ _ _ _ (lead_more _ _ c.loop-count-test.true d))
 
-pub returns-then-next-gt60 : goal.returns-then-next-gt60
-returns-then-next-gt60 c = large _ _ _ _ c.if-next-gt60.true (step (goal.at.returns-then-next-gt60 c).After-then_digit-next)
+pub returns-then-past : goal.returns-then-past
+returns-then-past c = large _ _ _ _ c.if-past.true (step (goal.at.returns-then-past c).After-then_digit-next)
 
 pub loop-count-preserved : goal.loop-count-preserved
-loop-count-preserved c = (c.if-next-gt60.false, step (goal.at.loop-count-preserved c).After-then_digit-next)
+loop-count-preserved c = (c.if-past.false, step (goal.at.loop-count-preserved c).After-then_digit-next)
 
 pub returns : goal.returns
 returns c = let i = c.loop-count.invariant in done _ _ _ _ i.0 (lead_end _ _ c.loop-count-test.false) i.1

@@ -12,10 +12,10 @@ size : (c : After-head_length-size) → c.head_length-size.result ≡ length (he
 size c =
     rw (to_z-of_z c.ranges.zone) at c.head_length-size.ensures ∙ sym (head_length_lem c.args.zone c.args.band)
 
-pub returns-then-out-size : goal.returns-then-out-size
-returns-then-out-size c =
-    short (head_text c.args.zone c.args.band) c.args.out.now _ (size (goal.at.returns-then-out-size c).After-head_length-size) c.if-out-size.true
+pub returns-then-short : goal.returns-then-short
+returns-then-short c =
+    short (head_text c.args.zone c.args.band) c.args.out.now _ (size (goal.at.returns-then-short c).After-head_length-size) c.if-short.true
 
 pub returns : goal.returns
 returns c =
-    long (head_text c.args.zone c.args.band) c.args.out.now _ (size (goal.at.returns c).After-head_length-size) c.if-out-size.false _ (rw (to_z-of_z c.ranges.zone) at c.put_head.ensures)
+    long (head_text c.args.zone c.args.band) c.args.out.now _ (size (goal.at.returns c).After-head_length-size) c.if-short.false _ (rw (to_z-of_z c.ranges.zone) at c.put_head.ensures)

@@ -46,16 +46,16 @@ overflow_add-n-3 c = record { fits = let h = head_le (goal.at.overflow_add-n-3 c
 
 pub put_block-requires : goal.put_block-requires
 put_block-requires c =
-    let k = c.if-n-out.true in
+    let k = c.if-fits.true in
     let l = c.put_head.auto.out in
     (p_is (goal.at.put_block-requires c).After-fold_of-p, few (goal.at.put_block-requires c).After-fold_of-p, omega arith)
 
-pub returns-then-n-out : goal.returns-then-n-out
-returns-then-n-out c =
-    let e = rw (zone_back (goal.at.returns-then-n-out c).After-struct_told-1) at c.put_head.ensures in
-    let made = full_stored c.args.parts c.args.out.now _ _ _ (head_is (goal.at.returns-then-n-out c).After-head_length-head) e c.put_block.ensures in
-    long (full_text c.args.parts) c.args.out.now _ (size (goal.at.returns-then-n-out c).After-fold_of-p) c.if-n-out.true _ made
+pub returns-then-fits : goal.returns-then-fits
+returns-then-fits c =
+    let e = rw (zone_back (goal.at.returns-then-fits c).After-struct_told-1) at c.put_head.ensures in
+    let made = full_stored c.args.parts c.args.out.now _ _ _ (head_is (goal.at.returns-then-fits c).After-head_length-head) e c.put_block.ensures in
+    long (full_text c.args.parts) c.args.out.now _ (size (goal.at.returns-then-fits c).After-fold_of-p) c.if-fits.true _ made
 
 pub returns : goal.returns
 returns c =
-    short (full_text c.args.parts) c.args.out.now _ (size (goal.at.returns c).After-fold_of-p) c.if-n-out.false
+    short (full_text c.args.parts) c.args.out.now _ (size (goal.at.returns c).After-fold_of-p) c.if-fits.false
