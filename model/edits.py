@@ -50,30 +50,23 @@ def shown(scratch, program):
     if program == ENDED:
         ended(scratch)
         program = "list"
-    run = subprocess.run(["rt", "try", program], cwd=scratch, capture_output=True, text=True)
-    if run.returncode == 0:
-        return ""
-    said = run.stdout + run.stderr
-    # The interpreter stops after so many steps, and then nothing is wrong; where it stops at a fault, the compiled runs,
-    # which go on, come first.
-    runs = re.split(r"^(?=ok: |FAIL: )", said, flags=re.M)
-    wrong = [r for r in runs if r.startswith("FAIL: ") and "did not finish within" not in r]
-    if len(runs) > 1 and not wrong:
-        return ""
-    first = sorted(wrong or runs, key=lambda r: r.startswith("FAIL: the interpreter"))[0]
-    at = re.search(r'on standard output, at byte (\d+), expected .*, found "(.*)"', first)
-    if not at:
-        return f"{program} does not end: " + first.strip().split("\n")[0]
-    told = re.match(r"(line .*?)\\n  here: (.*?)\\n", at.group(2))
+    folder = os.path.join(scratch, "crates", program)
+    feed = os.path.join(folder, "stdin")
+    with open(feed if os.path.exists(feed) else os.devnull, "rb") as stdin:
+        run = subprocess.run(["rt", "try"], cwd=folder, stdin=stdin, capture_output=True)
+    right = open(os.path.join(folder, "stdout"), "rb").read()
+    if run.stdout == right:
+        return "" if run.returncode == 0 else f"{program} does not end: " + run.stderr.decode().strip().split("\n")[0]
+    byte = next((k for k, (a, b) in enumerate(zip(run.stdout, right)) if a != b), min(len(run.stdout), len(right)))
+    start = right.rfind(b"\n", 0, byte) + 1
+    said = run.stdout[start:].split(b"\n")[0].decode(errors="replace") or "nothing more"
+    told = re.match(r"line \d+: (.*)\n  here: (.*)\n", run.stdout[start:].decode(errors="replace"))
     if told:
         return f"{program} differs at: {told[1]}, and says: {told[2]}"
-    lines = open(os.path.join(scratch, "crates", program, "stdout"), "rb").read()
-    byte = int(at.group(1))
-    start = lines.rfind(b"\n", 0, byte) + 1
-    right = lines[start:].split(b"\n")[0].decode() or "the end"
-    what = f"{program} differs at: {right}, and says: " + lines[start:byte].decode() + at.group(2).split("\\n")[0][:80]
-    if program == "list" and right != "the end":
-        text = open(os.path.join(scratch, "crates", "list", "stdin"), "rb").read().split(b"\n")[int(right.split()[0]) - 1]
+    line = right[start:].split(b"\n")[0].decode() or "the end"
+    what = f"{program} differs at: {line}, and says: {said[:80]}"
+    if program == "list" and line != "the end":
+        text = open(feed, "rb").read().split(b"\n")[int(line.split()[0]) - 1]
         what += ", of: " + repr(text)[1:]
     return what
 
