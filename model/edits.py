@@ -55,14 +55,17 @@ def shown(scratch, program):
     with open(feed if os.path.exists(feed) else os.devnull, "rb") as stdin:
         run = subprocess.run(["rt", "try"], cwd=folder, stdin=stdin, capture_output=True)
     right = open(os.path.join(folder, "stdout"), "rb").read()
+    told = run.stderr.decode().strip().split("\n")
+    if "run=ended" not in told[-1] and not run.stdout:
+        sys.exit(f"{program} does not build: " + told[0])
     if run.stdout == right:
-        return "" if run.returncode == 0 else f"{program} does not end: " + run.stderr.decode().strip().split("\n")[0]
+        return "" if run.returncode == 0 else f"{program} does not end: " + told[0]
     byte = next((k for k, (a, b) in enumerate(zip(run.stdout, right)) if a != b), min(len(run.stdout), len(right)))
     start = right.rfind(b"\n", 0, byte) + 1
     said = run.stdout[start:].split(b"\n")[0].decode(errors="replace") or "nothing more"
-    told = re.match(r"line \d+: (.*)\n  here: (.*)\n", run.stdout[start:].decode(errors="replace"))
-    if told:
-        return f"{program} differs at: {told[1]}, and says: {told[2]}"
+    differs = re.match(r"line \d+: (.*)\n  here: (.*)\n", run.stdout[start:].decode(errors="replace"))
+    if differs:
+        return f"{program} differs at: {differs[1]}, and says: {differs[2]}"
     line = right[start:].split(b"\n")[0].decode() or "the end"
     what = f"{program} differs at: {line}, and says: {said[:80]}"
     if program == "list" and line != "the end":
@@ -82,8 +85,11 @@ def main():
             continue
         with tempfile.TemporaryDirectory() as scratch:
             for part in ("crates", "crates.txt"):
-                copy = shutil.copytree if os.path.isdir(part) else shutil.copy
-                copy(part, os.path.join(scratch, part))
+                to = os.path.join(scratch, part)
+                if os.path.isdir(part):
+                    shutil.copytree(part, to, ignore=shutil.ignore_patterns("out"))
+                else:
+                    shutil.copy(part, to)
             changed(scratch, crate, path)
             what = next(filter(None, (shown(scratch, program) for program in programs(crate, by))), None)
         silent += what is None
