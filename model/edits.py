@@ -56,10 +56,14 @@ def shown(scratch, program):
         run = subprocess.run(["rt", "try"], cwd=folder, stdin=stdin, capture_output=True)
     right = open(os.path.join(folder, "stdout"), "rb").read()
     told = run.stderr.decode().strip().split("\n")
-    if "run=ended" not in told[-1] and not run.stdout:
+    if not told[-1].startswith("run="):
         sys.exit(f"{program} does not build: " + told[0])
+    # At a fault the output is not handed on, and the line of the compiled run says what it was.
+    fault = next((line for line in told if line.startswith("checked: ") and "ended" not in line), None)
+    if fault:
+        return f"{program} does not end: " + fault.split(": ", 1)[1]
     if run.stdout == right:
-        return "" if run.returncode == 0 else f"{program} does not end: " + told[0]
+        return ""
     byte = next((k for k, (a, b) in enumerate(zip(run.stdout, right)) if a != b), min(len(run.stdout), len(right)))
     start = right.rfind(b"\n", 0, byte) + 1
     said = run.stdout[start:].split(b"\n")[0].decode(errors="replace") or "nothing more"
