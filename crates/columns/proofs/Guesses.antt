@@ -2,7 +2,7 @@
 use mathlib.Core.Path.{◌≡◌, refl}
 use mathlib.Core.List.{List, [], ◌∷◌}
 use mathlib.Core.Bool.{Bool, true, false, cond}
-use Prim.Native.Nat.{ℕ, ◌*◌, ◌<◌}
+use Prim.Native.Nat.{ℕ, ◌*◌, ◌<◌, ◌≤◌}
 use lib.Dec.{T, eqb, lit≤}
 use lib.ListN.{get_or}
 use Rattle.whole.specs.Text.{bytes}
@@ -10,6 +10,7 @@ use Rattle.whole.proofs.Table.{row, alike, all, each}
 use Rattle.letters.specs.Letters.{UpsBands, UtmColumns0, UtmColumns1, UtmColumns2, UpsColumnsA, UpsColumnsB, UpsColumnsY, UpsColumnsZ, NoLetters, letters_of, place_from, place_of, by_place, letter_at, first_tile}
 use Rattle.letters.specs.Search.{confirm, behind_of, skipped_of, skipped_low, skipped_high, skipped_in_columns}
 use Rattle.letters.specs.inner.Stretches.{stretch}
+use Rattle.letters.specs.declared.Stretch.{Stretch}
 use Rattle.letters.proofs.Confirm.{right, confirmed_is}
 use Rattle.letters.proofs.Stretches.{guess, column_guess, Is}
 use Rattle.columns.specs.Columns.{utm_columns, ups_columns}
@@ -38,6 +39,10 @@ columns_by false false false false = record { low = lit≤ tt; high = lit≤ tt;
 pub columns_are : (b : ℕ) → Is column_table column_guess (ups_columns b) (column_stretch b)
 unfolding ups_columns column_stretch
 columns_are b = columns_by (eqb b 65) (eqb b 66) (eqb b 89) (eqb b 90)
+
+-- what stands for a band lies in the table
+pub in_table : (b : ℕ) (s : Stretch) → s ≡ column_stretch b → (s.start ≤ s.end) × (s.end ≤ 38)
+in_table b s e = let i = columns_are b in rw e (i.low, i.high)
 
 -- the same by the band's place, as the table has it
 pub stretch_of : (b : ℕ) → b < 256 → column_stretch b ≡ by_place (place_of UpsBands b) (stretch 0 0 0 0) (λ k. get_or (stretch 0 12 6 8 ∷ stretch 12 24 0 20 ∷ stretch 24 31 11 13 ∷ stretch 31 38 0 20 ∷ []) k (stretch 0 0 0 0))

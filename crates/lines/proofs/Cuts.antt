@@ -95,7 +95,7 @@ unfolding free
 cut [] = whole refl
 cut (b ∷ s) = cut_by b s (eqb b 10) refl (cut s)
 
--- ---- by the place of the first LF, as `find` answers it
+-- ---- by the place of the first LF, as `feed_from` answers it
 
 first_by : (s : List ℕ) → Cut s → index_of 10 s < length s → ended s ≡ take (index_of 10 s) s ∷ ended (drop (index_of 10 s + 1) s)
 first_by s (whole f) h = absurd (omega (arith, index_open s f))

@@ -2,11 +2,12 @@
 use mathlib.Core.Path.{◌≡◌, refl}
 use mathlib.Core.List.{List}
 use mathlib.Core.Bool.{Bool, true, false, cond}
-use Prim.Native.Nat.{ℕ}
+use Prim.Native.Nat.{ℕ, ◌≤◌}
 use lib.Dec.{T, lit≤}
 use Rattle.whole.specs.Text.{bytes}
 use Rattle.letters.specs.Letters.{UtmRows, UpsRowsSouth, UpsRowsNorth, letters_of, place_of, letter_at, first_tile}
 use Rattle.letters.specs.Search.{confirm, behind_of, skipped_of}
+use Rattle.letters.specs.declared.Stretch.{Stretch}
 use Rattle.letters.proofs.Confirm.{right, confirmed_is}
 use Rattle.letters.proofs.Stretches.{guess, Is}
 use Rattle.row_letters.specs.inner.Halves.{row_stretch}
@@ -26,3 +27,7 @@ pub rows_are : (north : Bool) → Is row_table guess (cond north UpsRowsNorth Up
 unfolding row_stretch behind_of skipped_of letter_at first_tile
 rows_are true = record { low = lit≤ tt; high = lit≤ tt; letters = refl; tile = refl; guessed = tt }
 rows_are false = record { low = lit≤ tt; high = lit≤ tt; letters = refl; tile = refl; guessed = tt }
+
+-- what stands for a hemisphere lies in the table
+pub in_table : (north : Bool) (s : Stretch) → s ≡ row_stretch north → (s.start ≤ s.end) × (s.end ≤ 38)
+in_table north s e = let i = rows_are north in rw e (i.low, i.high)

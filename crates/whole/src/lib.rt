@@ -56,6 +56,7 @@ pub fn floor_mod(x: i64, d: u64) -> u64
 }
 
 // 10 to the k-th for k up to 11; 0 above, which is no power of ten.
+#[tactic(auto, unfolding(crate::specs::Powers::power_of_ten))]
 pub fn power_of_ten(k: usize) -> u64
     ensures { result ≡ power_of_ten k }
 {

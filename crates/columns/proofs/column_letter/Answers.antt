@@ -1,7 +1,6 @@
 -- `columns::column_letter` meets its contract: the tables are the grid's sets.
 -- Assumes nothing.
 use mathlib.Core.Path.{◌≡◌, sym, ◌∙◌}
-use Prim.Native.Nat.{ℕ, ◌≤◌}
 use borrow.Author.Rules.{rules}
 use mathlib.Core.List.{[]}
 use lib.ListN.{get_or}
@@ -10,10 +9,8 @@ use mir.Facts.{to_z-of_z}
 use Rattle.whole.specs.Floor.{floor_mod}
 use Rattle.letters.specs.Letters.{letter_at}
 use Rattle.bands.specs.Bands.{grid_of}
-use Rattle.columns.specs.inner.Stretches.{column_stretch}
 use Rattle.columns.specs.Columns.{columns_of}
-use Rattle.columns.proofs.Guesses.{utm_table, column_table, columns_are, utm_letters}
-use Rattle.letters.specs.declared.Stretch.{Stretch}
+use Rattle.columns.proofs.Guesses.{utm_table, column_table, columns_are, utm_letters, in_table}
 use Rattle.letters.proofs.Stretches.{letters_from}
 use Rattle.columns.proofs.column_letter.Goals as goal
 use Rattle.columns.proofs.column_letter.Goals.{After-grid_of, After-third_of-third}
@@ -26,9 +23,6 @@ third_of-third-requires c = rw (to_z-of_z c.ranges.zone) (sym (grid (goal.at.thi
 
 third : (c : After-third_of-third) → c.third_of-third.result ≡ floor_mod (c.args.zone -ℤ pos 1) 3
 third c = rw (to_z-of_z c.ranges.zone) at c.third_of-third.ensures.0
-
-in_table : (band : ℕ) (s : Stretch) → s ≡ column_stretch band → (s.start ≤ s.end) × (s.end ≤ 38)
-in_table band s e = let i = columns_are band in rw e (i.low, i.high)
 
 pub offset_bounds-sets-third : goal.offset_bounds-sets-third
 offset_bounds-sets-third c = let h = c.third_of-third.ensures.1 in search rules

@@ -1,19 +1,14 @@
 -- `columns::ups_tile` meets its contract: a guess that is right of the band's stretch is confirmed, and counted from its first tile.
 -- Assumes nothing.
 use mathlib.Core.Path.{◌≡◌, sym, ◌∙◌}
-use Prim.Native.Nat.{ℕ, ◌≤◌}
 use native.Mathlib.Omega.{arith}
 use borrow.Author.Rules.{rules}
 use Rattle.letters.specs.Search.{confirm}
-use Rattle.letters.specs.declared.Stretch.{Stretch}
 use Rattle.letters.proofs.Stretches.{column_guess, letters_from, tile_at_lem, tile_none, tile_small}
 use Rattle.columns.specs.inner.Stretches.{column_stretch}
-use Rattle.columns.proofs.Guesses.{column_table, columns_are}
+use Rattle.columns.proofs.Guesses.{column_table, columns_are, in_table}
 use Rattle.columns.proofs.ups_tile.Goals as goal
 use Rattle.columns.proofs.ups_tile.Goals.{After-confirmed}
-
-in_table : (band : ℕ) (s : Stretch) → s ≡ column_stretch band → (s.start ≤ s.end) × (s.end ≤ 38)
-in_table band s e = let i = columns_are band in rw e (i.low, i.high)
 
 confirmed : (c : After-confirmed)
     → let a = c.args in

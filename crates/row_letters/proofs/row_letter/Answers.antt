@@ -1,26 +1,19 @@
 -- `row_letters::row_letter` meets its contract: the tables are the grid's sets.
 -- Assumes nothing.
 use mathlib.Core.Path.{◌≡◌, sym, ◌∙◌}
-use mathlib.Core.Bool.{Bool}
-use Prim.Native.Nat.{◌≤◌}
 use borrow.Author.Rules.{rules}
 use lib.ListN.{get_or}
 use mir.Facts.{to_z-of_z}
 use Rattle.letters.specs.Letters.{letter_at}
 use Rattle.bands.specs.Bands.{grid_of}
-use Rattle.row_letters.specs.inner.Halves.{row_stretch}
 use Rattle.row_letters.specs.RowLetters.{rows_of}
-use Rattle.row_letters.proofs.Guesses.{row_table, rows_are}
-use Rattle.letters.specs.declared.Stretch.{Stretch}
+use Rattle.row_letters.proofs.Guesses.{row_table, rows_are, in_table}
 use Rattle.letters.proofs.Stretches.{letters_from}
 use Rattle.row_letters.proofs.row_letter.Goals as goal
 use Rattle.row_letters.proofs.row_letter.Goals.{After-grid_of}
 
 grid : (c : After-grid_of) → c.grid_of.result ≡ grid_of c.args.zone
 grid c = rw (to_z-of_z c.ranges.zone) at c.grid_of.ensures
-
-in_table : (north : Bool) (s : Stretch) → s ≡ row_stretch north → (s.start ≤ s.end) × (s.end ≤ 38)
-in_table north s e = let i = rows_are north in rw e (i.low, i.high)
 
 pub slice_bounds-letter_at-count : goal.slice_bounds-letter_at-count
 slice_bounds-letter_at-count c = rw c.ups_rows-s.ensures (rows_are c.args.north).low

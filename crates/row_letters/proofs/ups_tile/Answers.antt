@@ -1,20 +1,14 @@
 -- `row_letters::ups_tile` meets its contract: a guess that is right of the hemisphere's stretch is confirmed, and counted from its first tile.
 -- Assumes nothing.
 use mathlib.Core.Path.{◌≡◌, sym, ◌∙◌}
-use mathlib.Core.Bool.{Bool}
-use Prim.Native.Nat.{◌≤◌}
 use native.Mathlib.Omega.{arith}
 use borrow.Author.Rules.{rules}
 use Rattle.letters.specs.Search.{confirm}
-use Rattle.letters.specs.declared.Stretch.{Stretch}
 use Rattle.letters.proofs.Stretches.{guess, letters_from, tile_at_lem, tile_none, tile_small}
 use Rattle.row_letters.specs.inner.Halves.{row_stretch}
-use Rattle.row_letters.proofs.Guesses.{row_table, rows_are}
+use Rattle.row_letters.proofs.Guesses.{row_table, rows_are, in_table}
 use Rattle.row_letters.proofs.ups_tile.Goals as goal
 use Rattle.row_letters.proofs.ups_tile.Goals.{After-confirmed}
-
-in_table : (north : Bool) (s : Stretch) → s ≡ row_stretch north → (s.start ≤ s.end) × (s.end ≤ 38)
-in_table north s e = let i = rows_are north in rw e (i.low, i.high)
 
 confirmed : (c : After-confirmed)
     → let a = c.args in
