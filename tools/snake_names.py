@@ -15,7 +15,6 @@ import sys
 TOKEN = re.compile(r'[^\s(){}\[\],;."@`]+')
 DECL = re.compile(r'^\s*(?:(?:pattern|unfoldable|abbrev|pub|axiom)\s+)*([^\s(){}\[\],;."@:]+)\s*(?:\{[^}]*\}\s*)?:(?:\s|$)')
 USE = re.compile(r'^(?:ghost )?use\s+([^\s{;]+?)(?:\.\{([^}]*)\}|\s+as\s+(\S+?))?;?\s*$')
-GENERATED = re.compile(r'\.(?:Tie|Goals|Given|Statement|Reads|Met|Lts)$')
 # Types, which are in camel case.
 TYPES = {"At-place": "AtPlace", "So-far": "SoFar", "Unit-of": "UnitOf"}
 # The definitions, as they will be spelled: a lemma that would have the name of one ends in `_lem`.
@@ -120,7 +119,7 @@ def turn(path, text, table, fields):
         s = line.group()
         cut = re.search(r'(?:^|\s)--(?:\s|$)|^\s*//', s)
         code = len(s) if not cut else cut.start()
-        last, last_end = None, -1
+        last = None
         for t in TOKEN.finditer(s):
             word, new = t.group(), None
             dot = t.start() > 0 and s[t.start() - 1] == "."
