@@ -10,31 +10,22 @@ ghost use Rattle.numbers.specs.Numbers.{read_number, metres_number, mgrs_number}
 ghost use Rattle.arrays.specs.Lent.{flag, fields_of, read_leaves, metres_leaves, moved_leaves};
 
 use position::Position;
-use ranges::MgrsCheck;
-use reader::{Answer, MetresRead};
+use ranges::Point;
+use reader::Reading;
 
-// What a call answers where it does not refuse.
+// What a call answers where it does not refuse. Kept as numbers: C has these.
 const SQUARE: i64 = 0;
 
 const BARE: i64 = 1;
 
 const IN_RANGE: i64 = 0;
 
-fn flag_of(yes: bool) -> i64
-    ensures { result ≡ flag yes }
-{
-    if yes {
-        return 1;
-    }
-    0
-}
-
-// A position in the order in which it is handed over.
+// A position in the order in which it is handed over. Kept: no `From`, which a crate can give only to a type of its own.
 fn fields_of(q: Position) -> [i64; 6]
     ensures { result ≡ fields_of q }
 {
-    let north = flag_of(q.north);
-    let band = q.band as i64;
+    let north = i64::from(q.north);
+    let band = i64::from(q.band);
     [q.zone, north, band, q.p, q.easting, q.northing]
 }
 
@@ -43,15 +34,15 @@ pub fn read(text: &[u8], position: &mut [i64; 6]) -> i64
     ensures { (result ≡ read_number (read_of text.now)) × (position.new ≡ read_leaves (read_of text.now) position.old) }
 {
     match reader::read(text) {
-        Answer::Square(square) => {
+        Ok(Reading::Square(square)) => {
             *position = fields_of(square);
             SQUARE
         }
-        Answer::Bare(bare) => {
+        Ok(Reading::Bare(bare)) => {
             *position = fields_of(bare);
             BARE
         }
-        Answer::Refused(n) => numbers::refused(n as u8),
+        Err(refusal) => numbers::number_of(refusal),
     }
 }
 
@@ -60,19 +51,19 @@ pub fn read_metres(text: &[u8], metres: &mut [f64; 2]) -> i64
     ensures { (result ≡ metres_number (metres_read text.now)) × (metres.new ≡ metres_leaves (metres_read text.now) metres.old) }
 {
     match reader::read_metres(text) {
-        MetresRead::SquareMetres(square) => {
+        Ok(Reading::Square(square)) => {
             *metres = [square.easting, square.northing];
             SQUARE
         }
-        MetresRead::BareMetres(bare) => {
+        Ok(Reading::Bare(bare)) => {
             *metres = [bare.easting, bare.northing];
             BARE
         }
-        MetresRead::Refused(n) => numbers::refused(n as u8),
+        Err(refusal) => numbers::number_of(refusal),
     }
 }
 
-// The MGRS range test: north or not, easting and northing after the edge rules.
+// The MGRS range test: north or not, easting and northing after the edge rules. Kept: its numbers one by one, as C hands them over.
 pub fn mgrs_check_coords(
     zone: i64,
     north: bool,
@@ -82,12 +73,16 @@ pub fn mgrs_check_coords(
 ) -> i64
     ensures { (result ≡ mgrs_number (mgrs_check zone north easting northing)) × (moved.new ≡ moved_leaves (mgrs_check zone north easting northing) moved.old) }
 {
-    match ranges::mgrs_check_coords(zone, north, easting, northing) {
-        MgrsCheck::Moved(point) => {
-            let north = flag_of(point.north);
-            *moved = [north, point.easting, point.northing];
+    let given = Point {
+        north,
+        easting,
+        northing,
+    };
+    match ranges::mgrs_check_coords(zone, given) {
+        Ok(point) => {
+            *moved = [i64::from(point.north), point.easting, point.northing];
             IN_RANGE
         }
-        MgrsCheck::Refused(n) => numbers::refused(n as u8),
+        Err(refusal) => numbers::number_of(refusal),
     }
 }

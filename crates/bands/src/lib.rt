@@ -5,13 +5,11 @@ ghost use Rattle.std.specs.Prelude.{◌≡◌};
 ghost use Rattle.letters.specs.Letters.{UtmBands, UpsBands, place_of, is_in};
 ghost use Rattle.bands.specs.Bands.{grid_of, bands_of, band_index};
 
-use letters::Place;
-
 const UTM_BANDS: [u8; 20] = *b"CDEFGHJKLMNPQRSTUVWX";
 
 const UPS_BANDS: [u8; 4] = *b"ABYZ";
 
-// The grid of a zone number.
+// The grid of a zone number. Kept: with no zone as a case of its own, and not as None, one `match` covers all three.
 #[derive(Clone, Copy)]
 pub enum Grid {
     Utm,
@@ -24,22 +22,17 @@ pub enum Grid {
 pub fn grid_of(zone: i64) -> Grid
     ensures { result ≡ grid_of zone }
 {
-    if zone < 0 {
-        return Grid::NoZone;
+    match zone {
+        0 => Grid::Ups,
+        1..=60 => Grid::Utm,
+        _ => Grid::NoZone,
     }
-    if 60 < zone {
-        return Grid::NoZone;
-    }
-    if zone < 1 {
-        return Grid::Ups;
-    }
-    Grid::Utm
 }
 
 // ---- the place of a band's letter
 
-// Among those of UTM.
-pub fn utm_place(letter: u8) -> Place
+// Among those of UTM. Kept beside the next: all that they share is `confirmed`, and the guesses differ.
+pub fn utm_place(letter: u8) -> Option<usize>
     ensures { result ≡ place_of UtmBands letter }
 {
     letters::confirmed(
@@ -50,7 +43,7 @@ pub fn utm_place(letter: u8) -> Place
 }
 
 // Among those of UPS.
-pub fn ups_place(letter: u8) -> Place
+pub fn ups_place(letter: u8) -> Option<usize>
     ensures { result ≡ place_of UpsBands letter }
 {
     letters::confirmed(
@@ -61,33 +54,30 @@ pub fn ups_place(letter: u8) -> Place
 }
 
 // Among those of a zone.
-pub fn band_place(zone: i64, letter: u8) -> Place
+#[tactic(auto, unfolding(crate::specs::Bands::bands_of, letters::specs::Letters::place_of, letters::specs::Letters::place_from))]
+pub fn band_place(zone: i64, letter: u8) -> Option<usize>
     ensures { result ≡ place_of (bands_of zone) letter }
 {
     match grid_of(zone) {
         Grid::Utm => utm_place(letter),
         Grid::Ups => ups_place(letter),
-        Grid::NoZone => Place::NotInSet,
+        Grid::NoZone => None,
     }
 }
 
-// Which UTM band a letter is, 0 for C to 19 for X; 20 for any other.
+// Which UTM band a letter is, 0 for C to 19 for X; 20 for any other. Kept: 20 and not None, as `band_index` of specs/Bands has it.
+#[tactic(auto, unfolding(crate::specs::Bands::band_index))]
 pub fn band_index(band: u8) -> usize
     ensures { result ≡ band_index band }
 {
-    match utm_place(band) {
-        Place::At(k) => k,
-        Place::NotInSet => 20,
-    }
+    utm_place(band).unwrap_or(20)
 }
 
+#[tactic(auto, unfolding(letters::specs::Letters::is_in))]
 fn is_ups_band(letter: u8) -> bool
     ensures { result ≡ is_in UpsBands letter }
 {
-    match ups_place(letter) {
-        Place::At(_) => true,
-        Place::NotInSet => false,
-    }
+    ups_place(letter).is_some()
 }
 
 // Whether a zone has a band. Reading asks no more than this, and an answer of one bit costs it less than a place.

@@ -1,4 +1,4 @@
-// The block of 100 km that a band, a column and a row letter name, or the number of the rule, 8 to 10, by which they name none; and
+// The block of 100 km that a band, a column and a row letter name, or the rule, of 8 to 10, by which they name none; and
 // the point of a bare zone. Every call takes any zone and any letters.
 #![tactic(auto)]
 
@@ -10,9 +10,8 @@ ghost use Rattle.block.specs.Bare.{bare_tile, bare_easting, bare_northing, bare_
 ghost use Rattle.block.specs.Block.{tile_of, utm_block, block_of};
 
 use bands::Grid;
-use letters::Place;
 use position::Position;
-use rows::RowAnswer;
+use rules::Refusal;
 
 // ---- a bare zone
 
@@ -32,29 +31,22 @@ fn bare_tile(k: usize) -> i64
 fn bare_easting(zone: i64, band: u8) -> i64
     ensures { result ≡ bare_easting zone band }
 {
-    if zone < 1 {
-        if letters::is_east(band) {
-            return 2_400_000 * METRE;
-        }
-        return 1_600_000 * METRE;
+    if zone < 1 && letters::is_east(band) {
+        2_400_000 * METRE
+    } else if zone < 1 {
+        1_600_000 * METRE
+    } else if zone == 31 && band == b'V' {
+        400_000 * METRE
+    } else {
+        500_000 * METRE
     }
-    if zone != 31 {
-        return 500_000 * METRE;
-    }
-    if band == b'V' {
-        return 400_000 * METRE;
-    }
-    500_000 * METRE
 }
 
 // Southern tiles count from 100 tiles below the equator.
 fn tiles_more(band: u8) -> i64
     ensures { result ≡ cond (north_band band) (pos 0) (pos 100) }
 {
-    if letters::is_north(band) {
-        return 0;
-    }
-    100
+    if letters::is_north(band) { 0 } else { 100 }
 }
 
 fn bare_northing(zone: i64, band: u8) -> i64
@@ -92,12 +84,6 @@ pub struct Tiles {
     pub northing: u8,
 }
 
-#[derive(Clone, Copy)]
-pub enum BlockAnswer {
-    Block(Tiles),
-    NoBlock(u64),
-}
-
 // The tile of a place, by the first letter's.
 fn tile_at(first: usize, place: usize) -> u8
     requires { (first ≤ 20) × (place < 24) }
@@ -112,64 +98,71 @@ fn tile_of(row: i64) -> u8
     ensures { result ≡ tile_of row }
 {
     if row < 0 {
-        return (row + 100) as u8;
+        (row + 100) as u8
+    } else {
+        row as u8
     }
-    row as u8
 }
 
 // The block of a UTM zone, with the row that the letter means. A letter that is no band allows no row; told at once, the row does not
 // wait for the table to confirm the band.
-fn utm_block(zone: i64, band: u8, column: usize, letter: usize, easting: u8) -> BlockAnswer
+fn utm_block(
+    zone: i64,
+    band: u8,
+    column: usize,
+    letter: usize,
+    easting: u8,
+) -> Result<Tiles, Refusal>
     ensures { result ≡ utm_block zone band column letter easting }
 {
-    let Place::At(k) = bands::utm_place(band) else {
-        return BlockAnswer::NoBlock(10);
+    let Some(k) = bands::utm_place(band) else {
+        return Err(Refusal::NoAllowedRow);
     };
     let number = k as i64 - 10;
-    let RowAnswer::Row(found) = rows::utm_row_at(rows::shift_of(zone), number, column, letter)
-    else {
-        return BlockAnswer::NoBlock(10);
+    let Some(found) = rows::utm_row_at(rows::shift_of(zone), number, column, letter) else {
+        return Err(Refusal::NoAllowedRow);
     };
-    let northing = tile_of(found.row);
-    BlockAnswer::Block(Tiles { easting, northing })
+    let northing = tile_of(found);
+    Ok(Tiles { easting, northing })
 }
 
-// Of capitals in a UTM zone: the column and the row of a band.
-fn block_in_utm(zone: i64, band: u8, column: u8, row: u8) -> BlockAnswer
+// Of capitals in a UTM zone: the column and the row of a band. Kept: zone, band and letters one by one, here and below, as the public
+// `block_of` takes them.
+fn block_in_utm(zone: i64, band: u8, column: u8, row: u8) -> Result<Tiles, Refusal>
     requires { grid_of zone ≡ Utm }
     ensures { result ≡ block_of zone band column row }
 {
-    let Place::At(c) = columns::utm_place(zone, column) else {
-        return BlockAnswer::NoBlock(8);
+    let Some(c) = columns::utm_place(zone, column) else {
+        return Err(Refusal::WrongColumn);
     };
-    let Place::At(l) = row_letters::utm_place(row) else {
-        return BlockAnswer::NoBlock(9);
+    let Some(l) = row_letters::utm_place(row) else {
+        return Err(Refusal::WrongRow);
     };
     utm_block(zone, band, c, l, tile_at(1, c))
 }
 
 // The same in UPS, where the letters are tiles.
-fn block_in_ups(band: u8, column: u8, row: u8) -> BlockAnswer
+fn block_in_ups(band: u8, column: u8, row: u8) -> Result<Tiles, Refusal>
     ensures { result ≡ block_of (pos 0) band column row }
 {
-    let Place::At(c) = columns::ups_tile(band, column) else {
-        return BlockAnswer::NoBlock(8);
+    let Some(c) = columns::ups_tile(band, column) else {
+        return Err(Refusal::WrongColumn);
     };
-    let Place::At(l) = row_letters::ups_tile(letters::is_north(band), row) else {
-        return BlockAnswer::NoBlock(9);
+    let Some(l) = row_letters::ups_tile(letters::is_north(band), row) else {
+        return Err(Refusal::WrongRow);
     };
     let easting = c as u8;
     let northing = l as u8;
-    BlockAnswer::Block(Tiles { easting, northing })
+    Ok(Tiles { easting, northing })
 }
 
 // The same in any zone.
-pub fn block_of(zone: i64, band: u8, column: u8, row: u8) -> BlockAnswer
+pub fn block_of(zone: i64, band: u8, column: u8, row: u8) -> Result<Tiles, Refusal>
     ensures { result ≡ block_of zone band column row }
 {
     match bands::grid_of(zone) {
         Grid::Utm => block_in_utm(zone, band, column, row),
         Grid::Ups => block_in_ups(band, column, row),
-        Grid::NoZone => BlockAnswer::NoBlock(8),
+        Grid::NoZone => Err(Refusal::WrongColumn),
     }
 }

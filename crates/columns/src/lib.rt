@@ -10,7 +10,7 @@ ghost use Rattle.columns.specs.Columns.{ups_columns, utm_columns_of, columns_of}
 ghost use Rattle.columns.specs.inner.Stretches.{column_stretch};
 
 use bands::Grid;
-use letters::{Place, Stretch};
+use letters::Stretch;
 
 // A table lent as `&TABLE` is built at the start of the function, so where only one arm of a `match` needs it, it is a local of that
 // arm.
@@ -51,18 +51,19 @@ const STRETCHES: [Stretch; 4] = [
 ];
 
 // The columns of a UPS band: of any other byte, none.
+#[tactic(auto, using(crate::proofs::Guesses::stretch_of, letters::proofs::Laws::place_below))]
 fn ups_columns(band: u8) -> Stretch
     ensures { result ≡ column_stretch band }
 {
-    let Place::At(k) = bands::ups_place(band) else {
-        return Stretch {
+    match bands::ups_place(band) {
+        Some(k) => STRETCHES[k],
+        None => Stretch {
             start: 0,
             end: 0,
             first: 0,
             tile: 0,
-        };
-    };
-    STRETCHES[k]
+        },
+    }
 }
 
 // Which of the three sets a UTM zone uses.
@@ -74,7 +75,7 @@ fn third_of(zone: i64) -> usize
 }
 
 // The place of a column's letter in a UTM zone.
-pub fn utm_place(zone: i64, letter: u8) -> Place
+pub fn utm_place(zone: i64, letter: u8) -> Option<usize>
     ensures { result ≡ place_of (utm_columns_of zone) letter }
 {
     match bands::grid_of(zone) {
@@ -87,30 +88,29 @@ pub fn utm_place(zone: i64, letter: u8) -> Place
                 letter,
             )
         }
-        Grid::Ups => Place::NotInSet,
-        Grid::NoZone => Place::NotInSet,
+        Grid::Ups => None,
+        Grid::NoZone => None,
     }
 }
 
 // The tile of a column's letter in a UPS band.
-pub fn ups_tile(band: u8, letter: u8) -> Place
+pub fn ups_tile(band: u8, letter: u8) -> Option<usize>
     ensures { result ≡ tile_in (ups_columns band) letter }
 {
     let s = ups_columns(band);
     let start = s.start as usize;
     let end = s.end as usize;
     let table = UPS_COLUMNS;
-    match letters::confirmed(
+    letters::tile_of(
         &table[start..end],
         letters::behind(letter, letters::skipped_in_columns(letter), s.first),
         letter,
-    ) {
-        Place::At(k) => Place::At(s.tile as usize + k),
-        Place::NotInSet => Place::NotInSet,
-    }
+        s.tile,
+    )
 }
 
-// The column's letter at a place, 0 past the last.
+// The column's letter at a place, 0 past the last, as `letter_at` of letters/specs/Letters has it. Kept beside its like of `row_letters`:
+// a function of both, being public, could not ask that a stretch lies in its table, and would have to test it.
 pub fn column_letter(zone: i64, band: u8, place: usize) -> u8
     ensures { result ≡ letter_at (columns_of zone band) place }
 {
@@ -131,7 +131,8 @@ pub fn column_letter(zone: i64, band: u8, place: usize) -> u8
     }
 }
 
-// The tile of the first column.
+// The tile of the first column. Kept beside its like of `row_letters`, as above.
+#[tactic(auto, unfolding(crate::specs::Columns::columns_of, letters::specs::Letters::first_tile), using(crate::proofs::Guesses::columns_are, crate::proofs::Guesses::utm_tile))]
 pub fn first_column(zone: i64, band: u8) -> usize
     ensures { result ≡ first_tile (columns_of zone band) }
 {

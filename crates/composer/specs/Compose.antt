@@ -1,5 +1,5 @@
 -- From a point to the parts of its reference, refusals 14 to 19 in their order: document 01, "Writing". Assumes nothing.
-use Rattle.std.specs.Prelude.{Bool, true, false, cond, not, ◌&&◌, ℕ, ◌-◌, ◌/◌, ◌%◌, ltb, leb, ℤ, pos, negsuc, ◌-ℤ◌}
+use Rattle.std.specs.Prelude.{Bool, true, false, cond, not, ◌&&◌, ℕ, ◌-◌, ◌/◌, ◌%◌, ltb, leb, ℤ, pos, negsuc, ◌-ℤ◌, Result, Ok, Err}
 use Rattle.std.specs.Int.Signed.{lt_z}
 use Rattle.whole.specs.Compare.{outside}
 use Rattle.whole.specs.Floor.{fold}
@@ -11,13 +11,13 @@ use Rattle.rows.specs.Allowed.{allowed}
 use Rattle.rows.specs.Letters.{shift_of, letter_of}
 use Rattle.position.specs.declared.Parts.{Parts}
 use Rattle.ranges.specs.declared.Point.{Point}
-use Rattle.ranges.specs.declared.MgrsCheck.{MgrsCheck}
-use Rattle.ranges.specs.declared.MgrsCheck.TheVariants.{Moved, Refused as OutOfRange}
 use Rattle.position.specs.Units.{tile_at}
 use Rattle.ranges.specs.Edges.{mgrs_check}
 use Rattle.position.specs.Squares.{side_length}
-use Rattle.composer.specs.declared.Composed.{Composed}
-use Rattle.composer.specs.declared.Composed.TheVariants.{Full, Bare, Refused}
+use Rattle.rules.specs.declared.Refusal.{Refusal}
+use Rattle.rules.specs.declared.Refusal.TheVariants.{NoSuchZone, WrongPrecision, NoSuchBand, BandMisfits}
+use Rattle.composer.specs.declared.Reference.{Reference}
+use Rattle.composer.specs.declared.Reference.TheVariants.{Full, Bare}
 
 -- "Southern tiles are r+100": the signed row of a tile.
 unfoldable pub row_of_tile : Bool → ℕ → ℤ
@@ -65,25 +65,25 @@ parts_at zone band north p e n = record {
 }
 
 -- "-1 means bare zone": it has a zone and a band, and nothing of the point.
-unfoldable pub made_of : ℤ → ℕ → Bool → ℤ → ℕ → ℕ → Composed
+unfoldable pub made_of : ℤ → ℕ → Bool → ℤ → ℕ → ℕ → Reference
 made_of zone band north p e n =
     cond (lt_z p (pos 0)) (Bare (record { zone = zone; band = band })) (Full (parts_at zone band north p e n))
 
 -- After the edge rules; no coordinate is negative then.
-unfoldable pub composed_at : ℤ → ℕ → Bool → ℤ → ℕ → ℕ → Composed
+unfoldable pub composed_at : ℤ → ℕ → Bool → ℤ → ℕ → ℕ → Result Reference Refusal
 composed_at zone band north p e n =
-    by_place (place_of (bands_of zone) band) (Refused 18)  -- "band letter not a capital of that kind's set"
-    (λ k. cond (not (fits zone band north (tile_at e) (tile_at n))) (Refused 19)  -- "band does not fit"
-    (made_of zone band north p e n))
+    by_place (place_of (bands_of zone) band) (Err NoSuchBand)  -- "band letter not a capital of that kind's set"
+    (λ k. cond (not (fits zone band north (tile_at e) (tile_at n))) (Err BandMisfits)  -- "band does not fit"
+    (Ok (made_of zone band north p e n)))
 
-abbrev pub reached : MgrsCheck → (Point → Composed) → Composed
-reached (OutOfRange n) rest = Refused n
-reached (Moved point) rest = rest point
+abbrev pub reached : Result Point Refusal → (Point → Result Reference Refusal) → Result Reference Refusal
+reached (Err n) rest = Err n
+reached (Ok point) rest = rest point
 
 -- Of zone, hemisphere, band, p, easting and northing.
-unfoldable pub composed : ℤ → Bool → ℕ → ℤ → ℤ → ℤ → Composed
+unfoldable pub composed : ℤ → Bool → ℕ → ℤ → ℤ → ℤ → Result Reference Refusal
 composed zone north band p e n =
-    cond (outside (pos 0) (pos 60) zone) (Refused 14)  -- "zone not 0..60"
-    (cond (outside (negsuc 0) (pos 11) p) (Refused 15)  -- "p not -1..11"
+    cond (outside (pos 0) (pos 60) zone) (Err NoSuchZone)  -- "zone not 0..60"
+    (cond (outside (negsuc 0) (pos 11) p) (Err WrongPrecision)  -- "p not -1..11"
     (reached (mgrs_check zone north e n)  -- "easting out of range", "northing out of range": 16, 17
     (λ point. composed_at zone band point.north p (fold point.easting) (fold point.northing))))

@@ -10,7 +10,6 @@ use lib.Dec.{ltb}
 use lib.ListN.{length, take, drop, length-append, length-take}
 use lib.Seq.{take_all, length-take-le, drop-drop, take-append_seam}
 use Rattle.whole.proofs.Parts.{clash}
-use Rattle.reader.specs.declared.Answer.{Answer}
 use Rattle.listing.specs.Listing.{line_of, answer_of}
 use Rattle.lines.specs.declared.Run.{Run}
 use Rattle.lines.specs.Lines.{lines_of, numbered, ended}
@@ -18,6 +17,10 @@ use Rattle.lines.specs.inner.Steps.{top, next_of, number_after, counted, joined,
 use Rattle.lines.proofs.Cuts.{free, ended_line, ended_open, Cut, whole, line, cut}
 use Rattle.lines.proofs.Parts.{take_least, drop_least}
 use Rattle.courses.proofs.Cuts.{free_both, free_take, open_free, lines_line, lines_open, advance, left}
+use Rattle.std.specs.Prelude.{Result}
+use Rattle.rules.specs.declared.Refusal.{Refusal}
+use Rattle.reader.specs.declared.Reading.{Reading}
+use Rattle.position.specs.declared.Position.{Position}
 
 pub none_by : (ls : List (List ℕ)) → some ls ≡ false → ls ≡ []
 unfolding some
@@ -31,7 +34,7 @@ fit_by false m k h = omega arith
 ended_take : (k : ℕ) (t : List ℕ) → ended t ≡ [] → ended (take k t) ≡ []
 ended_take k t e = ended_open (take k t) (free_take k t (open_free t e))
 
-module _ (read : List ℕ → Answer) where
+module _ (read : List ℕ → Result (Reading Position) Refusal) where
   -- ---- line by line
 
   fit_le : (room n : ℕ) (ls : List (List ℕ)) → fit read room n ls ≤ length ls
@@ -80,7 +83,7 @@ module _ (read : List ℕ → Answer) where
 
 pub record Cuttable (lines : List ℕ → List (List ℕ)) : Type 0 where
   pub first : (t s : List ℕ) → free t ≡ true → lines (t ++ (10 ∷ s)) ≡ t ∷ lines s
-  pub last : (read : List ℕ → Answer) (n : ℕ) (t f : List ℕ) → free t ≡ true → free f ≡ true → counted read n (lines (t ++ f)) ≡ counted read n (lines (take 65 t ++ f))
+  pub last : (read : List ℕ → Result (Reading Position) Refusal) (n : ℕ) (t f : List ℕ) → free t ≡ true → free f ≡ true → counted read n (lines (t ++ f)) ≡ counted read n (lines (take 65 t ++ f))
 
 -- all lines
 pub all_lines : Cuttable lines_of
@@ -100,7 +103,7 @@ ended_lines =
       last = λ read n t f e g. rw (ended_open (t ++ f) (free_both t f e g), ended_open (take 65 t ++ f) (free_both (take 65 t) f (free_take 65 t e) g));
     }
 
-module _ (read : List ℕ → Answer) (lines : List ℕ → List (List ℕ)) (w : Cuttable lines) where
+module _ (read : List ℕ → Result (Reading Position) Refusal) (lines : List ℕ → List (List ℕ)) (w : Cuttable lines) where
   pub goes : (room n : ℕ) (p f : List ℕ)
       → counted read n (lines (p ++ f)) ≡ answers_of read room n (ended p) ++ counted read (number_past read room n (ended p)) (lines (drop (taken_of read room n (ended p)) p ++ f))
   unfolding answers_of number_past taken_of

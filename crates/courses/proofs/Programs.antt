@@ -1,11 +1,10 @@
 -- A program whose functions keep to their contracts goes by a course, and ends with the listing. Assumes nothing.
 use mathlib.Core.Path.{◌≡◌, refl, sym, ap, ◌∙◌}
-use mathlib.Core.Bool.{Bool, true, false, cond}
+use mathlib.Core.Bool.{false}
 use mathlib.Core.List.{List}
 use Prim.Native.Nat.{ℕ, ◌-◌, ◌≤◌, ◌<◌}
 use native.Mathlib.Omega.{arith}
-use borrow.Author.Tests.{eq-eqb, eqb-true}
-use lib.Dec.{eqb}
+use borrow.Author.Tests.{eq-eqb}
 use lib.ListN.{length, take, drop, length-drop}
 use lib.Seq.{length-take-le}
 use Rattle.listing.specs.declared.Form.{Form}
@@ -13,8 +12,11 @@ use Rattle.lines.specs.declared.Run.{Run}
 use Rattle.lines.specs.Lines.{numbered, listing_of, ended}
 use Rattle.lines.specs.inner.Steps.{top, reader_of, last_of, room_of, pending_of, last_text, last_out, last_run, start_run, step_run, step_buf, step_out, finish_run, finish_out, received_run, written_run}
 use Rattle.lines.proofs.Runs.{finish_run_lem, finish_out_lem}
+use Rattle.std.specs.Prelude.{Result, Ok, Err, OnOk, IsOkUnless}
+use Rattle.courses.specs.declared.Failure.{Failure}
+use Rattle.courses.specs.declared.Failure.TheVariants.{Unwritten}
 use Rattle.courses.specs.Courses.{begins, steps, writes, finishes, writes_on}
-use Rattle.courses.specs.inner.Programs.{Reached, Answered, Over, Closed, Stops, unwritten, Delivered, Sent, none, one, Waits}
+use Rattle.courses.specs.inner.Programs.{Reached, Answered, Over, Closed, Stops, unwritten, through, Delivered, Sent, none, one, Waits}
 use Rattle.courses.proofs.Stands.{Stands, course_stands, put_within, text_le, sent_bound}
 use Rattle.courses.proofs.Whole.{read_block, whole_listing, answered_listing, ends}
 
@@ -100,16 +102,15 @@ closes buf out run out' r q h m room free e s z =
 
 -- ---- how a run stops
 
-stops_by : (buf out : List ℕ) (run : Run) (h k : ℕ) (z : Bool) → eqb h 0 ≡ z → (h ≡ 0 → Stops buf out run k) → Stops buf out run (cond z k 1)
-stops_by buf out run h k true e f = f (eqb-true h 0 e)
-stops_by buf out run h k false e f = unwritten
+-- by a write that failed
+pub stops_unwritten : (buf out : List ℕ) (run : Run) (e : Failure) → e ≡ Unwritten → Stops buf out run (Err e)
+stops_unwritten buf out run e is = rw is unwritten
 
--- by what it was told, if all was written
-pub stops : (buf out : List ℕ) (run r : Run) (h k g : ℕ) → (r ≡ run) × (g ≡ cond (eqb h 0) k 1) → (h ≡ 0 → Stops buf out run k) → Stops buf out r g
-stops buf out run r h k g e f = rw (e.0, e.1) (stops_by buf out run h k (eqb h 0) refl f)
-
-pub stops_unwritten : (buf out : List ℕ) (run : Run) (h : ℕ) → h ≤ 1 → (h ≡ 0 → ⊥) → Stops buf out run h
-stops_unwritten buf out run h l ne = let e : h ≡ 1 = omega arith in rw e unwritten
+-- as the last writes end
+pub stops : (buf out : List ℕ) (run : Run) (sent : Result (Unit {0}) Failure) → IsOkUnless sent Unwritten → OnOk sent (Closed buf out run)
+    → Stops buf out run sent
+stops buf out run (Ok x) h c = through c
+stops buf out run (Err e) h c = stops_unwritten buf out run e h
 
 -- THE CLAIM, for a program: what it has written when it is closed is the listing of what it has read.
 pub closed_listing : {buf out : List ℕ} {run : Run} (c : Closed buf out run) → length c.over.input < top

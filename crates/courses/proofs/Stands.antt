@@ -11,7 +11,6 @@ use lib.Dec.{ltb}
 use lib.ListN.{length, take, drop, length-append, length-take, length-drop, take-append-drop}
 use lib.Seq.{drop-append-le, take-append-add, take-append_seam, take_all, length-take-le, drop-drop}
 use Rattle.whole.proofs.Parts.{clash}
-use Rattle.reader.specs.declared.Answer.{Answer}
 use Rattle.listing.specs.declared.Form.{Form}
 use Rattle.listing.specs.Listing.{line_of}
 use Rattle.lines.specs.declared.Run.{Run}
@@ -21,6 +20,10 @@ use Rattle.lines.proofs.Steps.{text_room, text_full, text_none}
 use Rattle.lines.proofs.Runs.{size_le}
 use Rattle.courses.specs.Courses.{State, at_start, given, stepped, written, Course, begins, reads, steps, writes}
 use Rattle.courses.proofs.Goes.{Cuttable, step_goes, step_open}
+use Rattle.std.specs.Prelude.{Result}
+use Rattle.rules.specs.declared.Refusal.{Refusal}
+use Rattle.reader.specs.declared.Reading.{Reading}
+use Rattle.position.specs.declared.Position.{Position}
 
 pub record Stands (s : State) : Type 0 where
   pub low : s.run.from ≤ s.run.end
@@ -64,14 +67,14 @@ put_waits out sent used t low h =
     ap (drop sent) (took out used t) ∙ drop-append-le sent (take used out) t (omega arith)
 
 -- no more is put than there is room for
-text_by : (read : List ℕ → Answer) (room n : ℕ) (l : List ℕ) (ls : List (List ℕ)) (z : Bool) → ltb room (length (line_of read n l)) ≡ z
+text_by : (read : List ℕ → Result (Reading Position) Refusal) (room n : ℕ) (l : List ℕ) (ls : List (List ℕ)) (z : Bool) → ltb room (length (line_of read n l)) ≡ z
     → length (answers_of read (room - length (line_of read n l)) (next_of n) ls) ≤ room - length (line_of read n l) → length (answers_of read room n (l ∷ ls)) ≤ room
 text_by read room n l ls true e ih = rw (text_full read room n l ls (ltb-true room (length (line_of read n l)) e)) (omega arith)
 text_by read room n l ls false e ih =
     let h = ltb-false room (length (line_of read n l)) e in
     rw (text_room read room n l ls h) (simp length-append (omega arith))
 
-pub text_le : (read : List ℕ → Answer) (room n : ℕ) (ls : List (List ℕ)) → length (answers_of read room n ls) ≤ room
+pub text_le : (read : List ℕ → Result (Reading Position) Refusal) (room n : ℕ) (ls : List (List ℕ)) → length (answers_of read room n ls) ≤ room
 text_le read room n [] = rw text_none (omega arith)
 text_le read room n (l ∷ ls) = text_by read room n l ls (ltb room (length (line_of read n l))) refl (text_le read (room - length (line_of read n l)) (next_of n) ls)
 

@@ -7,7 +7,6 @@ use native.Mathlib.Omega.{arith}
 use lib.ListN.{length, take, drop, length-take, length-drop, take-append-drop, drop_of_length-le}
 use lib.Seq.{take-add, length-take-le}
 use Rattle.whole.proofs.Parts.{clash}
-use Rattle.reader.specs.declared.Answer.{Answer}
 use Rattle.listing.specs.Listing.{line_of}
 use Rattle.listing.proofs.Fit.{line_le}
 use Rattle.lines.specs.declared.Run.{Run}
@@ -20,6 +19,10 @@ use Rattle.courses.specs.Courses.{State, given, written, finished, Course, reads
 use Rattle.courses.proofs.Cuts.{open_free, lines_open, lines_parts}
 use Rattle.courses.proofs.Goes.{plain, none_by, all_lines, ended_lines}
 use Rattle.courses.proofs.Stands.{course_stands, put_waits, sent_waits}
+use Rattle.std.specs.Prelude.{Result}
+use Rattle.rules.specs.declared.Refusal.{Refusal}
+use Rattle.reader.specs.declared.Reading.{Reading}
+use Rattle.position.specs.declared.Position.{Position}
 
 -- What a read has to leave: the front of the buffer as it was. The block is what then stands behind it.
 pub read_block : {s : State} (buf : List ℕ) (n : ℕ) → Course s → s.run.end + n ≤ length buf → take s.run.end buf ≡ take s.run.end s.buf
@@ -121,7 +124,7 @@ answered_listing {s} c m h n =
 
 -- ---- with room for one line there is no standing still
 
-moves_by : (read : List ℕ → Answer) (room n : ℕ) (ls : List (List ℕ)) → 128 ≤ room → left_of read room n ls ≡ true → 0 < taken_of read room n ls
+moves_by : (read : List ℕ → Result (Reading Position) Refusal) (room n : ℕ) (ls : List (List ℕ)) → 128 ≤ room → left_of read room n ls ≡ true → 0 < taken_of read room n ls
 moves_by read room n [] h m = clash (let x : false ≡ true = sym (more_none read room n) ∙ m in cc)
 moves_by read room n (l ∷ ls) h m = omega (arith, size_room read room n l ls (omega (arith, line_le read n l)))
 
@@ -130,7 +133,7 @@ pub moves : (buf out : List ℕ) (run : Run) → 128 ≤ room_of out run → (st
 unfolding step_run step_more step_size
 moves buf out run h m = moves_by (reader_of run) (room_of out run) run.number (ended (pending_of buf run)) h m
 
-ends_by : (read : List ℕ → Answer) (room n : ℕ) (p : List ℕ) → 128 ≤ room → left_of read room n (last_of p) ≡ false
+ends_by : (read : List ℕ → Result (Reading Position) Refusal) (room n : ℕ) (p : List ℕ) → 128 ≤ room → left_of read room n (last_of p) ≡ false
 unfolding last_of
 ends_by read room n [] h = more_none read room n
 ends_by read room n (b ∷ p) h =

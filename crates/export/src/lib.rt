@@ -1,5 +1,6 @@
 // The calls for C and for Rust. Each hands its arguments on to the call that says what is answered: 0 or more is the answer,
-// below 0 is minus the refusal's number, and a refusal leaves every lent element as it was.
+// below 0 is minus the refusal's number, and a refusal leaves every lent element as it was. Kept twice, here and
+// in `export_c`: a crate is a library or a static library, and C needs its names in the second.
 #![tactic(auto)]
 
 ghost use Rattle.std.specs.Prelude.{◌≡◌, length};

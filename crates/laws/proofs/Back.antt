@@ -15,7 +15,6 @@ use Rattle.whole.specs.Compare.{outside}
 use Rattle.whole.specs.Floor.{fold}
 use Rattle.whole.proofs.Parts.{clash}
 use Rattle.whole.proofs.Ranges.{not_outside}
-use Rattle.letters.specs.declared.Place.TheVariants.{At}
 use Rattle.letters.specs.Letters.{place_of, north_band}
 use Rattle.bands.specs.Bands.{grid_of, bands_of}
 use Rattle.columns.specs.Columns.{columns_of}
@@ -25,25 +24,17 @@ use Rattle.runs.specs.Runs.{last_digits}
 use Rattle.runs.proofs.Decimals.{digits_length, digits_all, digits_value, all_append, low_digits}
 use Rattle.position.specs.declared.Parts.{Parts}
 use Rattle.ranges.specs.declared.Point.{Point}
-use Rattle.ranges.specs.declared.MgrsCheck.TheVariants.{Moved}
 use Rattle.ranges.specs.Edges.{mgrs_check}
 use Rattle.position.specs.Squares.{side_length, number_of, centre_of, holds}
 use Rattle.position.proofs.Squares.{centre_at, side_pos, tile_sides, holds_is}
 use Rattle.ranges.proofs.Reach.{Counted, Within, UpsReach, utm_reach, ups_reach, east_count, north_count}
 use Rattle.block.specs.declared.Tiles.{Tiles}
-use Rattle.block.specs.declared.BlockAnswer.TheVariants.{Block}
-use Rattle.runs.specs.declared.DigitsAnswer.TheVariants.{Halves}
-use Rattle.reader.specs.declared.Answer.{Answer}
-use Rattle.reader.specs.declared.Answer.TheVariants.{Square, Bare}
 use Rattle.block.specs.Bare.{bare_of}
 use Rattle.block.specs.Block.{block_of}
 use Rattle.runs.specs.Digits.{digits_of}
 use Rattle.reader.specs.Read.{square_of, full_of, tail_of, read_of}
 use Rattle.block.proofs.Placed.{placed}
 use Rattle.composer.specs.declared.BareZone.{BareZone}
-use Rattle.composer.specs.declared.Composed.{Composed}
-use Rattle.composer.specs.declared.Composed.TheVariants.{Full, Bare as BareText, Refused as NotComposed}
-use Rattle.writer.specs.declared.Written.TheVariants.{Length}
 use Rattle.writer.specs.Text.{head_text, block_text, full_text}
 use Rattle.position.specs.Units.{tile_at}
 use Rattle.composer.specs.Compose.{cut_of, fits, letter_of_tile, row_letter, parts_at, composed}
@@ -54,11 +45,18 @@ use Rattle.laws.specs.Trips.{around, square_at, back_of, SquareBack, BareBack, R
 use Rattle.laws.proofs.Heads.{capital_is, not_high, starts}
 use Rattle.laws.proofs.Inside.{low_tile, high_tile}
 use Rattle.laws.proofs.PointLetters.{Reads, utm_grid, utm_reads, ups_reads}
+use Rattle.std.specs.Prelude.{Some, Result, Ok, Err}
+use Rattle.rules.specs.declared.Refusal.{Refusal}
+use Rattle.reader.specs.declared.Reading.{Reading}
+use Rattle.reader.specs.declared.Reading.TheVariants.{Square, Bare}
+use Rattle.composer.specs.declared.Reference.{Reference}
+use Rattle.composer.specs.declared.Reference.TheVariants.{Full, Bare as BareText}
+use Rattle.position.specs.declared.Position.{Position}
 
 -- ---- the digits
 
 -- two numbers of n digits halve again
-halve : (n x y : ℕ) → n ≤ 11 → x < 10 ^ n → y < 10 ^ n → digits_of (last_digits n x ++ last_digits n y) ≡ Halves (record { p = pos n; easting = x; northing = y })
+halve : (n x y : ℕ) → n ≤ 11 → x < 10 ^ n → y < 10 ^ n → digits_of (last_digits n x ++ last_digits n y) ≡ Ok (record { p = pos n; easting = x; northing = y })
 unfolding digits_of
 halve n x y h g k =
     let xs = last_digits n x in
@@ -80,14 +78,14 @@ no_high n x y =
 
 -- ---- a text of sound parts
 
-module _ (z band k column row n x y : ℕ) (t : Tiles) (most : z ≤ 60) (place : place_of (bands_of (pos z)) band ≡ At k)
-    (block : block_of (pos z) band column row ≡ Block t) (few : n ≤ 11) (hx : x < 10 ^ n) (hy : y < 10 ^ n) where
+module _ (z band k column row n x y : ℕ) (t : Tiles) (most : z ≤ 60) (place : place_of (bands_of (pos z)) band ≡ Some k)
+    (block : block_of (pos z) band column row ≡ Ok t) (few : n ≤ 11) (hx : x < 10 ^ n) (hy : y < 10 ^ n) where
   -- zone, letters and digits
   abbrev parts : Parts
   parts = record { zone = pos z; band = band; column = column; row = row; p = pos n; easting = x; northing = y }
 
   -- after the band
-  tail_reads : tail_of (pos z) band (block_text parts) ≡ Square (square_of parts t)
+  tail_reads : tail_of (pos z) band (block_text parts) ≡ Ok (Square (square_of parts t))
   unfolding tail_of full_of block_text
   tail_reads =
       let b = placed (pos z) band column row t block in
@@ -113,7 +111,7 @@ module _ (z band k column row n x y : ℕ) (t : Tiles) (most : z ≤ 60) (place 
       )
 
   -- so the whole is read as the square of the parts in the tiles
-  pub parts_read : read_of (full_text parts) ≡ Square (square_of parts t)
+  pub parts_read : read_of (full_text parts) ≡ Ok (Square (square_of parts t))
   unfolding read_of full_text
   parts_read =
       let s = starts z band k (block_text parts) most place low_block in
@@ -172,13 +170,13 @@ PointFits zone band point = fits zone band point.north (tile_at (fold point.east
 
 module _ (north : Bool) (band : ℕ) (e n : ℤ) (point : Point) (k : ℕ) where
   -- in UTM, in UPS, in both
-  utm_point : (z : ℕ) → 1 ≤ z → z ≤ 60 → mgrs_check (pos z) north e n ≡ Moved point → place_of (bands_of (pos z)) band ≡ At k → PointFits (pos z) band point → PointReads (pos z) band point
+  utm_point : (z : ℕ) → 1 ≤ z → z ≤ 60 → mgrs_check (pos z) north e n ≡ Ok point → place_of (bands_of (pos z)) band ≡ Some k → PointFits (pos z) band point → PointReads (pos z) band point
   utm_point z least most h place fit =
       let r = utm_reach (pos z) north e n point h (utm_grid z least most) in
       utm_reads z band k point.north _ _ least most place fit
       (tile_from 1 9 point.easting r.east) (tile_to 1 9 point.easting r.east) (λ s. tile_to 10 100 point.northing (r.south s))
 
-  ups_point : mgrs_check (pos 0) north e n ≡ Moved point → place_of (bands_of (pos 0)) band ≡ At k → PointFits (pos 0) band point → PointReads (pos 0) band point
+  ups_point : mgrs_check (pos 0) north e n ≡ Ok point → place_of (bands_of (pos 0)) band ≡ Some k → PointFits (pos 0) band point → PointReads (pos 0) band point
   unfolding grid_of
   ups_point h place fit =
       let t = point.north in
@@ -187,7 +185,7 @@ module _ (north : Bool) (band : ℕ) (e n : ℤ) (point : Point) (k : ℕ) where
       (tile_from (low_tile t) (high_tile t) point.easting w.east) (tile_to (low_tile t) (high_tile t) point.easting w.east)
       (tile_from (low_tile t) (high_tile t) point.northing w.north) (tile_to (low_tile t) (high_tile t) point.northing w.north)
 
-  point_reads : (z : ℕ) → z ≤ 60 → mgrs_check (pos z) north e n ≡ Moved point → place_of (bands_of (pos z)) band ≡ At k → PointFits (pos z) band point → PointReads (pos z) band point
+  point_reads : (z : ℕ) → z ≤ 60 → mgrs_check (pos z) north e n ≡ Ok point → place_of (bands_of (pos z)) band ≡ Some k → PointFits (pos z) band point → PointReads (pos z) band point
   point_reads zero most h place fit = ups_point h place fit
   point_reads (suc m) most h place fit = utm_point (suc m) (omega arith) most h place fit
 
@@ -199,7 +197,7 @@ zone_most z e = ltb-false 60 z (not_outside (pos 0) (pos 60) (pos z) e).1
 
 -- a composed text is read as the square around its point
 full_at : (zone : ℤ) (north : Bool) (band : ℕ) (p e n : ℤ) (c : Checked zone north band p e n) → lt_z p (pos 0) ≡ false
-    → read_of (full_text (parts_at zone band c.point.north p (fold c.point.easting) (fold c.point.northing))) ≡ Square (square_at zone band p c.point)
+    → read_of (full_text (parts_at zone band c.point.north p (fold c.point.easting) (fold c.point.northing))) ≡ Ok (Square (square_at zone band p c.point))
 unfolding parts_at square_of square_at
 full_at (negsuc z) north band p e n c t = let f = (not_outside (pos 0) (pos 60) (negsuc z) c.zone_in).0 in clash (cc)
 full_at (pos z) north band (negsuc j) e n c t = clash (cc)
@@ -213,7 +211,7 @@ full_at (pos z) north band (pos j) e n c t =
     ∙ rw r.side
 
 -- a composed zone and band are read as the bare zone
-pub bare_at : (zone : ℤ) (band k : ℕ) → outside (pos 0) (pos 60) zone ≡ false → place_of (bands_of zone) band ≡ At k → read_of (head_text zone band) ≡ Bare (bare_of zone band)
+pub bare_at : (zone : ℤ) (band k : ℕ) → outside (pos 0) (pos 60) zone ≡ false → place_of (bands_of zone) band ≡ Some k → read_of (head_text zone band) ≡ Ok (Bare (bare_of zone band))
 unfolding read_of tail_of has_high
 bare_at (negsuc z) band k h place = let f = (not_outside (pos 0) (pos 60) (negsuc z) h).0 in clash (cc)
 bare_at (pos z) band k h place =
@@ -221,7 +219,7 @@ bare_at (pos z) band k h place =
     ap read_of (sym (append-nil (head_text (pos z) band))) ∙ rw (s.is_head, s.after)
 
 -- what is written into a buffer with room is the text
-written : (t l : List ℕ) (m : ℕ) → fit_of t (length l) ≡ Length m → take m (leaves_of t l) ≡ t
+written : (t l : List ℕ) (m : ℕ) → fit_of t (length l) ≡ Ok m → take m (leaves_of t l) ≡ t
 written t l m e =
     let f = fitted t (length l) m e in
     let k : length t ≤ length l = omega (arith, f.0, f.1) in
@@ -231,23 +229,23 @@ written t l m e =
 
 module _ (zone : ℤ) (north : Bool) (band : ℕ) (p e n : ℤ) where
   -- what reading back is to be, of a full reference and of a bare zone
-  back_square : (parts : Parts) (point : Point) → composed zone north band p e n ≡ Full parts → mgrs_check zone north e n ≡ Moved point → back_of zone north band p e n ≡ Square (square_at zone band p point)
+  back_square : (parts : Parts) (point : Point) → composed zone north band p e n ≡ Ok (Full parts) → mgrs_check zone north e n ≡ Ok point → back_of zone north band p e n ≡ Ok (Square (square_at zone band p point))
   unfolding back_of
   back_square parts point x h = rw (x, h)
 
-  back_bare : (z : BareZone) → composed zone north band p e n ≡ BareText z → back_of zone north band p e n ≡ Bare (bare_of zone band)
+  back_bare : (z : BareZone) → composed zone north band p e n ≡ Ok (BareText z) → back_of zone north band p e n ≡ Ok (Bare (bare_of zone band))
   unfolding back_of
   back_bare z x = rw x
 
   -- what is composed reads as that
-  pub full_reads : (parts : Parts) → composed zone north band p e n ≡ Full parts → read_of (full_text parts) ≡ back_of zone north band p e n
+  pub full_reads : (parts : Parts) → composed zone north band p e n ≡ Ok (Full parts) → read_of (full_text parts) ≡ back_of zone north band p e n
   full_reads parts x =
       let f = full zone north band p e n parts x in
       ap (λ (q : Parts). read_of (full_text q)) f.is
       ∙ full_at zone north band p e n f.checked f.digits
       ∙ sym (back_square parts f.checked.point x f.checked.is_point)
 
-  pub bare_reads : (z : BareZone) → composed zone north band p e n ≡ BareText z → read_of (head_text z.zone z.band) ≡ back_of zone north band p e n
+  pub bare_reads : (z : BareZone) → composed zone north band p e n ≡ Ok (BareText z) → read_of (head_text z.zone z.band) ≡ back_of zone north band p e n
   bare_reads z x =
       let f = bare zone north band p e n z x in
       ap (λ (q : BareZone). read_of (head_text q.zone q.band)) f.is
@@ -255,13 +253,13 @@ module _ (zone : ℤ) (north : Bool) (band : ℕ) (p e n : ℤ) where
       ∙ sym (back_bare z x)
 
   -- by what is composed
-  back_by : (c : Composed) (l : List ℕ) (m : ℕ) → composed zone north band p e n ≡ c → answered c (length l) ≡ Length m → read_of (take m (kept c l)) ≡ back_of zone north band p e n
-  back_by (Full parts) l m x a = ap read_of (written (full_text parts) l m a) ∙ full_reads parts x
-  back_by (BareText z) l m x a = ap read_of (written (head_text z.zone z.band) l m a) ∙ bare_reads z x
-  back_by (NotComposed k) l m x a = clash (cc)
+  back_by : (c : Result Reference Refusal) (l : List ℕ) (m : ℕ) → composed zone north band p e n ≡ c → answered c (length l) ≡ Ok m → read_of (take m (kept c l)) ≡ back_of zone north band p e n
+  back_by (Ok (Full parts)) l m x a = ap read_of (written (full_text parts) l m a) ∙ full_reads parts x
+  back_by (Ok (BareText z)) l m x a = ap read_of (written (head_text z.zone z.band) l m a) ∙ bare_reads z x
+  back_by (Err k) l m x a = clash (cc)
 
   -- and so does what was written
-  pub reads_back : (l : List ℕ) (m : ℕ) → write_of zone north band p e n (length l) ≡ Length m → read_of (take m (write_leaves zone north band p e n l)) ≡ back_of zone north band p e n
+  pub reads_back : (l : List ℕ) (m : ℕ) → write_of zone north band p e n (length l) ≡ Ok m → read_of (take m (write_leaves zone north band p e n l)) ≡ back_of zone north band p e n
   unfolding write_of write_leaves
   reads_back l m a = back_by (composed zone north band p e n) l m refl a
 
@@ -274,7 +272,7 @@ axis_holds (pos j) x t h c =
 
 module _ (zone : ℤ) (north : Bool) (band : ℕ) (p e n : ℤ) where
   -- "unless bare, to the square holding the point after the edge rules"
-  pub square_back : (parts : Parts) → composed zone north band p e n ≡ Full parts → (point : Point) → mgrs_check zone north e n ≡ Moved point → SquareBack zone band p point (back_of zone north band p e n)
+  pub square_back : (parts : Parts) → composed zone north band p e n ≡ Ok (Full parts) → (point : Point) → mgrs_check zone north e n ≡ Ok point → SquareBack zone band p point (back_of zone north band p e n)
   unfolding square_at
   square_back parts x point h =
       let f = full zone north band p e n parts x in
@@ -290,7 +288,7 @@ module _ (zone : ℤ) (north : Bool) (band : ℕ) (p e n : ℤ) where
       }
 
   -- a bare zone to its zone and band
-  pub bare_back : (z : BareZone) → composed zone north band p e n ≡ BareText z → BareBack zone band (back_of zone north band p e n)
+  pub bare_back : (z : BareZone) → composed zone north band p e n ≡ Ok (BareText z) → BareBack zone band (back_of zone north band p e n)
   unfolding bare_of
   bare_back z x =
       let f = bare zone north band p e n z x in
@@ -309,8 +307,8 @@ bare_p (negsuc n) h t = let k = ltb-false 0 n (not_outside (negsuc 0) (pos 11) (
 
 module _ (zone : ℤ) (north : Bool) (band : ℕ) (p e n : ℤ) where
   -- by what is composed, of the answer of reading
-  all_by : (c : Composed) (m k : ℕ) → composed zone north band p e n ≡ c → answered c m ≡ Length k → ReadsBack zone north band p e n (back_of zone north band p e n)
-  all_by (Full parts) m k x a =
+  all_by : (c : Result Reference Refusal) (m k : ℕ) → composed zone north band p e n ≡ c → answered c m ≡ Ok k → ReadsBack zone north band p e n (back_of zone north band p e n)
+  all_by (Ok (Full parts)) m k x a =
       let f = full zone north band p e n parts x in
       let no = f.digits in
       record {
@@ -319,7 +317,7 @@ module _ (zone : ℤ) (north : Bool) (band : ℕ) (p e n : ℤ) where
         square = λ t. square_back zone north band p e n parts x f.checked.point f.checked.is_point;
         bare = λ t. let z : true ≡ false = sym t ∙ no in clash (cc);
       }
-  all_by (BareText z) m k x a =
+  all_by (Ok (BareText z)) m k x a =
       let f = bare zone north band p e n z x in
       let no = f.no_digits in
       record {
@@ -328,12 +326,12 @@ module _ (zone : ℤ) (north : Bool) (band : ℕ) (p e n : ℤ) where
         square = λ t. let y : true ≡ false = sym no ∙ t in clash (cc);
         bare = λ t. (bare_p p f.checked.p_in t, bare_back zone north band p e n z x);
       }
-  all_by (NotComposed j) m k x a = clash (cc)
+  all_by (Err j) m k x a = clash (cc)
 
   -- whatever is written, in whatever buffer, reads back
-  pub written_back : (l : List ℕ) (m : ℕ) → write_of zone north band p e n (length l) ≡ Length m
+  pub written_back : (l : List ℕ) (m : ℕ) → write_of zone north band p e n (length l) ≡ Ok m
       → ReadsBack zone north band p e n (read_of (take m (write_leaves zone north band p e n l)))
   unfolding write_of
   written_back l m a =
-      subst (λ (y : Answer). ReadsBack zone north band p e n y) (sym (reads_back zone north band p e n l m a))
+      subst (λ (y : Result (Reading Position) Refusal). ReadsBack zone north band p e n y) (sym (reads_back zone north band p e n l m a))
       (all_by (composed zone north band p e n) (length l) m refl a)

@@ -13,7 +13,6 @@ use Rattle.whole.specs.Floor.{floor_div}
 use Rattle.whole.proofs.Parts.{T_true}
 use Rattle.whole.proofs.Table.{each}
 use Rattle.letters.specs.Letters.{UtmBands, place_of, north_band, east_band}
-use Rattle.letters.specs.declared.Place.TheVariants.{At}
 use Rattle.bands.specs.Bands.{bands_of, band_index, band_number}
 use Rattle.bands.proofs.Index.{zone_index}
 use Rattle.letters.proofs.Laws.{place_below}
@@ -25,6 +24,7 @@ use Rattle.block.specs.Bare.{bare_easting, bare_tile, bare_northing}
 use Rattle.block.specs.Block.{tile_of}
 use Rattle.block.proofs.Bounds.{south_tile}
 use Rattle.laws.proofs.Inside.{Kind, kind, Inside, row_side, utm_inside, Polar, ups_inside}
+use Rattle.std.specs.Prelude.{Some}
 
 -- a coordinate that is not negative, and its tile
 pub record InTile (z : ℤ) (t : ℕ) : Type 0 where
@@ -64,7 +64,7 @@ utm_north (negsuc n) h =
     record { units = (99 - n) * 200000000000; is = ap tiles e; tile = mul-div_cancel (99 - n) (lit< tt) }
 
 -- so the point of a UTM band
-utm_point : (zone : ℤ) (band k : ℕ) → Kind zone false → place_of (bands_of zone) band ≡ At k → BarePoint zone band
+utm_point : (zone : ℤ) (band k : ℕ) → Kind zone false → place_of (bands_of zone) band ≡ Some k → BarePoint zone band
 unfolding bands_of bare_easting bare_northing
 utm_point zone band k z b =
     let v = is_number zone 31 && eqb band (code "V") in
@@ -110,10 +110,10 @@ ups_point zone band z = record {
 -- ---- both
 
 -- of either kind
-by_kind : (zone : ℤ) (band k : ℕ) (ups : Bool) → Kind zone ups → place_of (bands_of zone) band ≡ At k → BarePoint zone band
+by_kind : (zone : ℤ) (band k : ℕ) (ups : Bool) → Kind zone ups → place_of (bands_of zone) band ≡ Some k → BarePoint zone band
 by_kind zone band k true z b = ups_point zone band z
 by_kind zone band k false z b = utm_point zone band k z b
 
 -- of every band
-pub bare_point : (zone : ℤ) (band k : ℕ) → place_of (bands_of zone) band ≡ At k → BarePoint zone band
+pub bare_point : (zone : ℤ) (band k : ℕ) → place_of (bands_of zone) band ≡ Some k → BarePoint zone band
 bare_point zone band k b = by_kind zone band k (lt_z zone (pos 1)) (kind zone band k b) b

@@ -10,22 +10,19 @@ use lib.Signed.{lt_z}
 use Rattle.whole.proofs.Parts.{clash}
 use Rattle.bands.specs.declared.Grid.TheVariants.{Ups}
 use Rattle.letters.specs.Letters.{LetterSet, UpsRowsSouth, UpsRowsNorth, place_of, first_tile, north_band, east_band}
-use Rattle.letters.specs.declared.Place.TheVariants.{At}
 use Rattle.bands.specs.Bands.{band_number, grid_of, bands_of}
 use Rattle.columns.specs.Columns.{ups_columns, columns_of}
 use Rattle.row_letters.specs.RowLetters.{rows_of}
 use Rattle.letters.proofs.Laws.{place_below, place_holds}
-use Rattle.rows.specs.declared.RowAnswer.{RowAnswer}
-use Rattle.rows.specs.declared.RowAnswer.TheVariants.{Row, Nothing}
 use Rattle.rows.specs.Letters.{shift_of}
 use Rattle.rows.specs.Resolve.{resolve}
 use Rattle.rows.proofs.Theorems.{answered, in_rows}
 use Rattle.block.specs.declared.Tiles.{Tiles}
-use Rattle.block.specs.declared.BlockAnswer.TheVariants.{Block}
 use Rattle.block.specs.Block.{tile_of, tiles_of, on_row, utm_block, block_of}
 use Rattle.block.proofs.Placed.{placed}
 use Rattle.composer.specs.Compose.{letter_of_tile, row_letter}
 use Rattle.laws.proofs.Inside.{Kind, kind, utm_columns_lem, Inside, row_side, row_back, utm_inside, half_columns, hemisphere_rows, Polar, ups_inside}
+use Rattle.std.specs.Prelude.{Option, Some, None, Ok}
 
 -- what is known of the tiles of a block
 pub record Stands (zone : ℤ) (band column row : ℕ) (t : Tiles) : Type 0 where
@@ -34,7 +31,7 @@ pub record Stands (zone : ℤ) (band column row : ℕ) (t : Tiles) : Type 0 wher
   pub row_is : row_letter zone (north_band band) t.northing ≡ row
 
 -- the tile of a letter's place has that letter
-letter_back : (set : LetterSet) (b c : ℕ) → place_of set b ≡ At c → letter_of_tile set (first_tile set + c) ≡ b
+letter_back : (set : LetterSet) (b c : ℕ) → place_of set b ≡ Some c → letter_of_tile set (first_tile set + c) ≡ b
 unfolding letter_of_tile
 letter_back set b c e =
     let i : first_tile set + c - first_tile set ≡ c = omega arith in
@@ -43,8 +40,8 @@ letter_back set b c e =
 -- ---- UPS
 
 -- so the tiles of two places are in the band's half
-in_half : (zone : ℤ) (band k column row c l : ℕ) → grid_of zone ≡ Ups → place_of (bands_of zone) band ≡ At k
-    → place_of (columns_of zone band) column ≡ At c → place_of (rows_of zone (north_band band)) row ≡ At l
+in_half : (zone : ℤ) (band k column row c l : ℕ) → grid_of zone ≡ Ups → place_of (bands_of zone) band ≡ Some k
+    → place_of (columns_of zone band) column ≡ Some c → place_of (rows_of zone (north_band band)) row ≡ Some l
     → Polar (north_band band) (east_band band) (first_tile (columns_of zone band) + c) (first_tile (rows_of zone (north_band band)) + l)
 unfolding bands_of columns_of rows_of
 in_half zone band k column row c l g b x y =
@@ -60,33 +57,33 @@ in_half zone band k column row c l g b x y =
 
 -- ---- both
 
-module _ (zone : ℤ) (band k column row c l : ℕ) (t : Tiles) (b : place_of (bands_of zone) band ≡ At k)
-    (is_column : place_of (columns_of zone band) column ≡ At c) (is_row : place_of (rows_of zone (north_band band)) row ≡ At l) where
+module _ (zone : ℤ) (band k column row c l : ℕ) (t : Tiles) (b : place_of (bands_of zone) band ≡ Some k)
+    (is_column : place_of (columns_of zone band) column ≡ Some c) (is_row : place_of (rows_of zone (north_band band)) row ≡ Some l) where
   module _ (z : Kind zone false) where
     -- on the row that resolution answers
-    on_row_lem : (a : RowAnswer) → resolve (shift_of zone) (band_number band) c l ≡ a → on_row (first_tile (columns_of zone band) + c) a ≡ Block t
+    on_row_lem : (a : Option ℤ) → resolve (shift_of zone) (band_number band) c l ≡ a → on_row (first_tile (columns_of zone band) + c) a ≡ Ok t
         → Stands zone band column row t
     unfolding row_letter
-    on_row_lem (Row found) e x =
-        let q : record { easting = first_tile (columns_of zone band) + c; northing = tile_of found.row } ≡ t = cc in
+    on_row_lem (Some found) e x =
+        let q : record { easting = first_tile (columns_of zone band) + c; northing = tile_of found } ≡ t = cc in
         let r = answered (band_number band) c (shift_of zone) l found e in
-        let h = in_rows (band_number band) c found.row r.0 in
-        let s = row_side zone band k c found.row z.grid b r.0 in
+        let h = in_rows (band_number band) c found r.0 in
+        let s = row_side zone band k c found z.grid b r.0 in
         rw (← q)
         (record {
-          inside = rw (utm_columns_lem zone band z.grid).0 (utm_inside zone band k c found.row z b r.0);
+          inside = rw (utm_columns_lem zone band z.grid).0 (utm_inside zone band k c found z b r.0);
           column_is = letter_back (columns_of zone band) column c is_column;
-          row_is = rw z.test (rw (s, row_back found.row h.0, r.1) (rw s at (place_holds (rows_of zone (north_band band)) row l is_row)));
+          row_is = rw z.test (rw (s, row_back found h.0, r.1) (rw s at (place_holds (rows_of zone (north_band band)) row l is_row)));
         })
-    on_row_lem Nothing e x = clash (cc)
+    on_row_lem None e x = clash (cc)
 
     -- the tiles of a UTM block
-    utm_stands : utm_block zone band c l (first_tile (columns_of zone band) + c) ≡ Block t → Stands zone band column row t
+    utm_stands : utm_block zone band c l (first_tile (columns_of zone band) + c) ≡ Ok t → Stands zone band column row t
     unfolding utm_block
     utm_stands x = on_row_lem (resolve (shift_of zone) (band_number band) c l) refl x
 
   -- and those of a UPS block
-  ups_stands : Kind zone true → tiles_of (first_tile (columns_of zone band) + c) (first_tile (rows_of zone (north_band band)) + l) ≡ Block t
+  ups_stands : Kind zone true → tiles_of (first_tile (columns_of zone band) + c) (first_tile (rows_of zone (north_band band)) + l) ≡ Ok t
       → Stands zone band column row t
   unfolding row_letter
   ups_stands z x =
@@ -100,13 +97,13 @@ module _ (zone : ℤ) (band k column row c l : ℕ) (t : Tiles) (b : place_of (b
 
   -- of either kind
   by_kind : (ups : Bool) → Kind zone ups
-      → cond ups (tiles_of (first_tile (columns_of zone band) + c) (first_tile (rows_of zone (north_band band)) + l)) (utm_block zone band c l (first_tile (columns_of zone band) + c)) ≡ Block t
+      → cond ups (tiles_of (first_tile (columns_of zone band) + c) (first_tile (rows_of zone (north_band band)) + l)) (utm_block zone band c l (first_tile (columns_of zone band) + c)) ≡ Ok t
       → Stands zone band column row t
   by_kind true z x = ups_stands z x
   by_kind false z x = utm_stands z x
 
 -- of every block that was read
-pub stands : (zone : ℤ) (band k column row : ℕ) (t : Tiles) → place_of (bands_of zone) band ≡ At k → block_of zone band column row ≡ Block t
+pub stands : (zone : ℤ) (band k column row : ℕ) (t : Tiles) → place_of (bands_of zone) band ≡ Some k → block_of zone band column row ≡ Ok t
     → Stands zone band column row t
 stands zone band k column row t b e =
     let p = placed zone band column row t e in

@@ -6,16 +6,17 @@ use lib.IntN.{ℤ, pos}
 use Rattle.position.specs.declared.Position.{Position}
 use Rattle.position.specs.Squares.{centre_of, centre, number_of}
 use Rattle.position.proofs.Squares.{centre_at}
-use Rattle.reader.specs.declared.Answer.TheVariants.{Square}
 use Rattle.reader.specs.Read.{square_of, read_of}
 use Rattle.reader.proofs.Stages.{squared}
 use Rattle.runs.proofs.Halves.{halved_by}
 use Rattle.laws.specs.Centre.{Centred}
+use Rattle.std.specs.Prelude.{Ok}
+use Rattle.reader.specs.declared.Reading.TheVariants.{Square}
 
 axis : (p : ℤ) (n t d v : ℕ) → p ≡ pos n → n ≤ 11 → d < 10 ^ n → d ≡ v → pos (centre_of p t d) ≡ pos (centre n (number_of n t v))
 axis p n t d v e h g f = rw (e, ← f) (ap pos (centre_at n t d h g))
 
-pub centred : (s : List ℕ) (q : Position) → read_of s ≡ Square q → Centred s q
+pub centred : (s : List ℕ) (q : Position) → read_of s ≡ Ok (Square q) → Centred s q
 unfolding square_of
 centred s q e =
     let a = squared s q e in

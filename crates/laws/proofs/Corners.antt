@@ -10,7 +10,6 @@ use borrow.Author.Tests.{le-ltb}
 use lib.IntN.{ℤ, pos, negsuc}
 use lib.ListN.{length, take, drop, length-take, length-drop}
 use Rattle.whole.specs.Compare.{outside}
-use Rattle.letters.specs.declared.Place.TheVariants.{At}
 use Rattle.letters.specs.Letters.{place_of, north_band}
 use Rattle.bands.specs.Bands.{bands_of}
 use Rattle.position.specs.declared.Parts.{Parts}
@@ -22,17 +21,13 @@ use Rattle.runs.specs.Runs.{last_digits}
 use Rattle.words.proofs.Laws.{and_left, and_right, all_split}
 use Rattle.runs.proofs.Decimals.{first_digits}
 use Rattle.head.specs.declared.Head.{Head}
-use Rattle.head.specs.declared.HeadAnswer.TheVariants.{Start}
 use Rattle.block.specs.declared.Tiles.{Tiles}
 use Rattle.runs.specs.declared.Digits.{Digits}
-use Rattle.reader.specs.declared.Answer.TheVariants.{Square}
 use Rattle.head.specs.Head.{letter_in, head_of}
 use Rattle.reader.specs.Read.{parts_of, square_of, read_of}
 use Rattle.head.proofs.Began.{began}
 use Rattle.reader.proofs.Stages.{squared}
 use Rattle.runs.proofs.Halves.{Halved, halved_by}
-use Rattle.composer.specs.declared.Composed.{Composed}
-use Rattle.composer.specs.declared.Composed.TheVariants.{Full}
 use Rattle.writer.specs.Text.{block_text, full_text}
 use Rattle.position.specs.Units.{tile_at}
 use Rattle.composer.specs.Compose.{cut_of, parts_at, made_of, composed}
@@ -46,14 +41,18 @@ use Rattle.laws.proofs.Blocks.{Stands, stands}
 use lib.Pow.{pow-add}
 use lib.Seq.{take-take}
 use Rattle.whole.proofs.Powers.{ten_pos}
-use Rattle.block.specs.declared.BlockAnswer.TheVariants.{Block}
 use Rattle.block.specs.Block.{block_of}
 use Rattle.laws.specs.Squares.{short_text}
+use Rattle.std.specs.Prelude.{Some, Result, Ok}
+use Rattle.rules.specs.declared.Refusal.{Refusal}
+use Rattle.reader.specs.declared.Reading.TheVariants.{Square}
+use Rattle.composer.specs.declared.Reference.{Reference}
+use Rattle.composer.specs.declared.Reference.TheVariants.{Full}
 
 -- ---- the bytes
 
 -- what is composed, and what is answered and kept of it, is written
-pub written : (q : Position) (c : Composed) (t : List ℕ) → composed q.zone q.north q.band q.p q.easting q.northing ≡ c
+pub written : (q : Position) (c : Result Reference Refusal) (t : List ℕ) → composed q.zone q.north q.band q.p q.easting q.northing ≡ c
     → ((m : ℕ) → answered c m ≡ fit_of t m) → ((l : List ℕ) → kept c l ≡ leaves_of t l) → Writes q t
 unfolding write_of write_leaves
 written q c t e f g = record {
@@ -91,9 +90,9 @@ module _ (p t d : ℕ) (h : p ≤ 11) (g : d < 10 ^ p) where
 -- ---- what is composed
 
 -- of a point in tiles whose points stay and that its band fits
-pub from_tiles : (zone : ℤ) (band k e n : ℕ) (p : ℤ) (x y : ℕ) → place_of (bands_of zone) band ≡ At k → outside (negsuc 0) (pos 11) p ≡ false
+pub from_tiles : (zone : ℤ) (band k e n : ℕ) (p : ℤ) (x y : ℕ) → place_of (bands_of zone) band ≡ Some k → outside (negsuc 0) (pos 11) p ≡ false
     → Inside zone band e n → tile_at x ≡ e → tile_at y ≡ n
-    → composed zone (north_band band) band p (pos x) (pos y) ≡ made_of zone band (north_band band) p x y
+    → composed zone (north_band band) band p (pos x) (pos y) ≡ Ok (made_of zone band (north_band band) p x y)
 from_tiles zone band k e n p x y b w i h g =
     made zone (north_band band) band p k x y (kind zone band k b).in_range w (i.stays x y h g) b (rw (h, g) i.fit)
 
@@ -103,10 +102,10 @@ unfolding outside
 p_right n h = rw (le-ltb 11 n h)
 
 -- the band of a head has its place
-placed_as : (z : ℤ) (b v l k : ℕ) → z ≡ pos v → b ≡ l → place_of (bands_of (pos v)) l ≡ At k → place_of (bands_of z) b ≡ At k
+placed_as : (z : ℤ) (b v l k : ℕ) → z ≡ pos v → b ≡ l → place_of (bands_of (pos v)) l ≡ Some k → place_of (bands_of z) b ≡ Some k
 placed_as z b v l k e f p = rw (e, f) p
 
-pub head_place : (s : List ℕ) (h : Head) (e : head_of s ≡ Start h) → place_of (bands_of h.zone) h.band ≡ At (began s h e).k
+pub head_place : (s : List ℕ) (h : Head) (e : head_of s ≡ Ok h) → place_of (bands_of h.zone) h.band ≡ Some (began s h e).k
 head_place s h e = let b = began s h e in placed_as h.zone h.band _ _ _ b.zone b.band b.place
 
 -- ---- fewer digits
@@ -141,7 +140,7 @@ module _ (p q : ℕ) (few : p ≤ 11) (le : q ≤ p) where
 
 -- ---- what is composed of the corner at q
 
-module _ (zone : ℤ) (band k column row : ℕ) (tiles : Tiles) (p q d f : ℕ) (b : place_of (bands_of zone) band ≡ At k)
+module _ (zone : ℤ) (band k column row : ℕ) (tiles : Tiles) (p q d f : ℕ) (b : place_of (bands_of zone) band ≡ Some k)
     (o : Stands zone band column row tiles) (few : p ≤ 11) (le : q ≤ p) (g : d < 10 ^ p) (i : f < 10 ^ p) where
   -- the zone, the letters and the first q digits
   abbrev shorter : Parts
@@ -163,11 +162,11 @@ module _ (zone : ℤ) (band k column row : ℕ) (tiles : Tiles) (p q d f : ℕ) 
 
   -- and what is composed of it
   short_composed : composed zone (north_band band) band (pos q) (corner_of (pos p) (pos (centre_of (pos p) tiles.easting d)))
-      (corner_of (pos p) (pos (centre_of (pos p) tiles.northing f))) ≡ Full shorter
+      (corner_of (pos p) (pos (centre_of (pos p) tiles.northing f))) ≡ Ok (Full shorter)
   short_composed =
       rw (corner p tiles.easting d few g, corner p tiles.northing f few i)
       (from_tiles zone band k tiles.easting tiles.northing (pos q) _ _ b (p_right q (omega arith)) o.inside
-      (corner_tile p tiles.easting d few g) (corner_tile p tiles.northing f few i) ∙ short_made)
+      (corner_tile p tiles.easting d few g) (corner_tile p tiles.northing f few i) ∙ ap Ok short_made)
 
 -- ---- behind a square with its head and its p
 
@@ -178,7 +177,7 @@ parts_in s h d = parts_of h.zone h.band (letter_in (rest_of s h) 0) (letter_in (
 -- the tiles, and d and f, the digits of easting and northing: the first q of them are the first q bytes of their half
 pub record Told (s : List ℕ) (x : Position) (h : Head) (p : ℕ) : Type 0 where
   pub tiles : Tiles
-  pub block : block_of h.zone h.band (letter_in (rest_of s h) 0) (letter_in (rest_of s h) 1) ≡ Block tiles
+  pub block : block_of h.zone h.band (letter_in (rest_of s h) 0) (letter_in (rest_of s h) 1) ≡ Ok tiles
   pub few : p ≤ 11
   pub d : ℕ
   pub f : ℕ
@@ -207,7 +206,7 @@ north_first ds d h q le =
     rw h.north (first_digits n q (drop n ds) le l (and_right (all_digits (take n ds)) _ both))
 
 -- every text that is read as a square has these, by its head and its p
-pub told : (s : List ℕ) (x : Position) (h : Head) (p : ℕ) → read_of s ≡ Square x → head_of s ≡ Start h → x.p ≡ pos p → Told s x h p
+pub told : (s : List ℕ) (x : Position) (h : Head) (p : ℕ) → read_of s ≡ Ok (Square x) → head_of s ≡ Ok h → x.p ≡ pos p → Told s x h p
 unfolding square_of
 told s x h p e start w =
     let a = squared s x e in
@@ -232,7 +231,7 @@ told s x h p e start w =
       is = a.is ∙ ap at v.p;
     }))
 
-module _ (s : List ℕ) (x : Position) (h : Head) (p q : ℕ) (t : Told s x h p) (start : head_of s ≡ Start h) (le : q ≤ p) where
+module _ (s : List ℕ) (x : Position) (h : Head) (p q : ℕ) (t : Told s x h p) (start : head_of s ≡ Ok h) (le : q ≤ p) where
   -- its zone, its letters and its first q digits
   abbrev pub short_parts : Parts
   short_parts = parts_in s h (record { p = pos q; easting = t.d / ten p q; northing = t.f / ten p q })
@@ -249,4 +248,4 @@ module _ (s : List ℕ) (x : Position) (h : Head) (p q : ℕ) (t : Told s x h p)
       let b = head_place s h start in
       let o = stands _ _ _ _ _ _ b t.block in
       let c = short_composed h.zone h.band _ _ _ t.tiles p q t.d t.f b o t.few le t.east_lt t.north_lt in
-      rw t.is (written _ (Full short_parts) (short_text s h p q) c (λ m. rw short_text_lem) (λ l. rw short_text_lem))
+      rw t.is (written _ (Ok (Full short_parts)) (short_text s h p q) c (λ m. rw short_text_lem) (λ l. rw short_text_lem))

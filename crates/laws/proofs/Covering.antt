@@ -14,30 +14,28 @@ use Rattle.whole.proofs.Parts.{clash, le_yes, le_true}
 use Rattle.whole.proofs.Powers.{ten_pos}
 use Rattle.whole.proofs.Ranges.{not_outside}
 use Rattle.whole.proofs.Signed.{same→eq, same_yes}
-use Rattle.letters.specs.declared.Place.TheVariants.{At}
 use Rattle.letters.specs.Letters.{place_of}
 use Rattle.bands.specs.Bands.{bands_of}
 use Rattle.words.proofs.Laws.{and_left, and_right}
 use Rattle.position.specs.declared.Position.{Position}
 use Rattle.position.specs.Squares.{side_length, number_of, centre_of, corner_of}
 use Rattle.head.specs.declared.Head.{Head}
-use Rattle.head.specs.declared.HeadAnswer.TheVariants.{Start}
 use Rattle.block.specs.declared.Tiles.{Tiles}
-use Rattle.block.specs.declared.BlockAnswer.TheVariants.{Block}
-use Rattle.reader.specs.declared.Answer.{Answer}
-use Rattle.reader.specs.declared.Answer.TheVariants.{Square, Bare, Refused as NotRead}
 use Rattle.head.specs.Head.{head_of}
 use Rattle.block.specs.Bare.{bare_of}
 use Rattle.block.specs.Block.{block_of}
 use Rattle.reader.specs.Read.{parts_of, square_of, read_of}
 use Rattle.reader.proofs.Stages.{squared}
 use Rattle.writer.specs.Text.{head_text, full_text}
-use Rattle.squares.specs.declared.Covering.TheVariants.{Covers}
-use Rattle.squares.specs.Covers.{same_area, axis_within, square_within, covers_if, covering, covers_of}
+use Rattle.squares.specs.Covers.{same_area, axis_within, square_within, covering, covers_of}
 use Rattle.laws.specs.Squares.{short_text}
 use Rattle.laws.proofs.Inside.{kind}
 use Rattle.laws.proofs.Corners.{corner, head_place, ten, sides, powers, first_lt, Told, told, short_parts, short_text_lem}
 use Rattle.laws.proofs.Back.{zone_most, parts_read, bare_at}
+use Rattle.std.specs.Prelude.{Some, Result, Ok, Err}
+use Rattle.rules.specs.declared.Refusal.{Refusal}
+use Rattle.reader.specs.declared.Reading.{Reading}
+use Rattle.reader.specs.declared.Reading.TheVariants.{Square, Bare}
 
 -- ---- the tests
 
@@ -93,25 +91,25 @@ within_on a b c t u =
     rw (east, north)
 
 -- so a square covers one that lies within it
-square_covers : (s t : List ℕ) (a b : Position) → read_of s ≡ Square a → read_of t ≡ Square b → a.zone ≡ b.zone → a.band ≡ b.band → square_within a b ≡ true → covers_of s t ≡ Covers
+square_covers : (s t : List ℕ) (a b : Position) → read_of s ≡ Ok (Square a) → read_of t ≡ Ok (Square b) → a.zone ≡ b.zone → a.band ≡ b.band → square_within a b ≡ true → covers_of s t ≡ Ok true
 unfolding covers_of
 square_covers s t a b e f z n w = rw (e, f, area a b z n, w)
 
 -- ---- a text covers itself
 
 -- one that is read as a square
-pub self_covers : (s : List ℕ) (x : Position) → read_of s ≡ Square x → covers_of s s ≡ Covers
+pub self_covers : (s : List ℕ) (x : Position) → read_of s ≡ Ok (Square x) → covers_of s s ≡ Ok true
 self_covers s x e = square_covers s s x x e e refl refl (within_self x)
 
 -- and one that is read as a bare zone
-pub bare_self_covers : (s : List ℕ) (x : Position) → read_of s ≡ Bare x → covers_of s s ≡ Covers
+pub bare_self_covers : (s : List ℕ) (x : Position) → read_of s ≡ Ok (Bare x) → covers_of s s ≡ Ok true
 unfolding covers_of
 bare_self_covers s x e = rw (e, area x x refl refl)
 
 -- ---- its bare zone covers it
 
 -- "either A is bare": the zone and the band of a square, written alone, cover it
-pub bare_covers : (s : List ℕ) (x : Position) (h : Head) → read_of s ≡ Square x → head_of s ≡ Start h → covers_of (head_text h.zone h.band) s ≡ Covers
+pub bare_covers : (s : List ℕ) (x : Position) (h : Head) → read_of s ≡ Ok (Square x) → head_of s ≡ Ok h → covers_of (head_text h.zone h.band) s ≡ Ok true
 unfolding covers_of square_of bare_of
 bare_covers s x h e start =
     let a = squared s x e in
@@ -153,15 +151,15 @@ module _ (p q t d : ℕ) (few : p ≤ 11) (le : q ≤ p) (g : d < 10 ^ p) where
       rw (corner p t d few g, corner q t (d / c) (omega arith) (first_lt p q few le t d g), sides p q few le, number_in, le-leb _ _ low, le-leb _ _ high)
 
 -- the text of sound parts is read as their square in the tiles of their letters
-any_read : (zone : ℤ) (band k column row n x y : ℕ) (t : Tiles) → outside (pos 0) (pos 60) zone ≡ false → place_of (bands_of zone) band ≡ At k
-    → block_of zone band column row ≡ Block t → n ≤ 11 → x < 10 ^ n → y < 10 ^ n
-    → let parts = parts_of zone band column row (record { p = pos n; easting = x; northing = y }) in read_of (full_text parts) ≡ Square (square_of parts t)
+any_read : (zone : ℤ) (band k column row n x y : ℕ) (t : Tiles) → outside (pos 0) (pos 60) zone ≡ false → place_of (bands_of zone) band ≡ Some k
+    → block_of zone band column row ≡ Ok t → n ≤ 11 → x < 10 ^ n → y < 10 ^ n
+    → let parts = parts_of zone band column row (record { p = pos n; easting = x; northing = y }) in read_of (full_text parts) ≡ Ok (Square (square_of parts t))
 any_read (negsuc z) band k column row n x y t h place block few hx hy = let f = (not_outside (pos 0) (pos 60) (negsuc z) h).0 in clash (cc)
 any_read (pos z) band k column row n x y t h place block few hx hy = parts_read z band k column row n x y t (zone_most z h) place block few hx hy
 
 -- the shortened text is so read
-short_read : (s : List ℕ) (x : Position) (h : Head) (p q : ℕ) (t : Told s x h p) (start : head_of s ≡ Start h) (le : q ≤ p)
-    → read_of (short_text s h p q) ≡ Square (square_of (short_parts s x h p q t start le) t.tiles)
+short_read : (s : List ℕ) (x : Position) (h : Head) (p q : ℕ) (t : Told s x h p) (start : head_of s ≡ Ok h) (le : q ≤ p)
+    → read_of (short_text s h p q) ≡ Ok (Square (square_of (short_parts s x h p q t start le) t.tiles))
 short_read s x h p q t start le =
     let b = head_place s h start in
     let few = t.few in
@@ -170,43 +168,42 @@ short_read s x h p q t start le =
     (first_lt p q few le 0 t.d t.east_lt) (first_lt p q few le 0 t.f t.north_lt)
 
 -- so what is shortened covers what it was made from
-pub short_covers : (s : List ℕ) (x : Position) (p q : ℕ) (h : Head) → read_of s ≡ Square x → x.p ≡ pos p → q ≤ p → head_of s ≡ Start h
-    → covers_of (short_text s h p q) s ≡ Covers
+pub short_covers : (s : List ℕ) (x : Position) (p q : ℕ) (h : Head) → read_of s ≡ Ok (Square x) → x.p ≡ pos p → q ≤ p → head_of s ≡ Ok h
+    → covers_of (short_text s h p q) s ≡ Ok true
 unfolding square_of square_within
 short_covers s x p q h e w le start =
     let t = told s x h p e start w in
     let r = short_read s x h p q t start le in
     let east = axis_short p q t.tiles.easting t.d t.few le t.east_lt in
     let north = axis_short p q t.tiles.northing t.f t.few le t.north_lt in
-    square_covers (short_text s h p q) s _ _ r (e ∙ ap Square t.is) refl refl (rw (east, north))
+    square_covers (short_text s h p q) s _ _ r (e ∙ ap (λ x. Ok (Square x)) t.is) refl refl (rw (east, north))
 
 -- ---- covering goes on
 
 -- what covers has passed its test
-yes : (t : Bool) → covers_if t ≡ Covers → t ≡ true
-yes true e = refl
-yes false e = clash (cc)
+yes : (t : Bool) → ◌≡◌ {A = Result Bool Refusal} (Ok t) (Ok true) → t ≡ true
+yes t e = cc
 
 -- of three answers, the first covers the last where each covers the next
-on_by : (a b c : Answer) → covering a b ≡ Covers → covering b c ≡ Covers → covering a c ≡ Covers
-on_by (NotRead k) b c e f = clash (cc)
-on_by (Bare a) (NotRead k) c e f = clash (cc)
-on_by (Bare a) (Bare b) (NotRead k) e f = clash (cc)
-on_by (Bare a) (Bare b) (Bare c) e f = rw (area_on a b c (yes _ e) (yes _ f))
-on_by (Bare a) (Bare b) (Square c) e f = rw (area_on a b c (yes _ e) (yes _ f))
-on_by (Bare a) (Square b) (NotRead k) e f = clash (cc)
-on_by (Bare a) (Square b) (Bare c) e f = clash (cc)
-on_by (Bare a) (Square b) (Square c) e f = rw (area_on a b c (yes _ e) (and_left _ _ (yes _ f)))
-on_by (Square a) (NotRead k) c e f = clash (cc)
-on_by (Square a) (Bare b) c e f = clash (cc)
-on_by (Square a) (Square b) (NotRead k) e f = clash (cc)
-on_by (Square a) (Square b) (Bare c) e f = clash (cc)
-on_by (Square a) (Square b) (Square c) e f =
+on_by : (a b c : Result (Reading Position) Refusal) → covering a b ≡ Ok true → covering b c ≡ Ok true → covering a c ≡ Ok true
+on_by (Err k) b c e f = clash (cc)
+on_by (Ok (Bare a)) (Err k) c e f = clash (cc)
+on_by (Ok (Bare a)) (Ok (Bare b)) (Err k) e f = clash (cc)
+on_by (Ok (Bare a)) (Ok (Bare b)) (Ok (Bare c)) e f = rw (area_on a b c (yes _ e) (yes _ f))
+on_by (Ok (Bare a)) (Ok (Bare b)) (Ok (Square c)) e f = rw (area_on a b c (yes _ e) (yes _ f))
+on_by (Ok (Bare a)) (Ok (Square b)) (Err k) e f = clash (cc)
+on_by (Ok (Bare a)) (Ok (Square b)) (Ok (Bare c)) e f = clash (cc)
+on_by (Ok (Bare a)) (Ok (Square b)) (Ok (Square c)) e f = rw (area_on a b c (yes _ e) (and_left _ _ (yes _ f)))
+on_by (Ok (Square a)) (Err k) c e f = clash (cc)
+on_by (Ok (Square a)) (Ok (Bare b)) c e f = clash (cc)
+on_by (Ok (Square a)) (Ok (Square b)) (Err k) e f = clash (cc)
+on_by (Ok (Square a)) (Ok (Square b)) (Ok (Bare c)) e f = clash (cc)
+on_by (Ok (Square a)) (Ok (Square b)) (Ok (Square c)) e f =
     let t = yes _ e in
     let u = yes _ f in
     rw (area_on a b c (and_left _ _ t) (and_left _ _ u), within_on a b c (and_right (same_area a b) _ t) (and_right (same_area b c) _ u))
 
 -- what is covered by a text is covered by what covers that text
-pub covers_on : (a b c : List ℕ) → covers_of a b ≡ Covers → covers_of b c ≡ Covers → covers_of a c ≡ Covers
+pub covers_on : (a b c : List ℕ) → covers_of a b ≡ Ok true → covers_of b c ≡ Ok true → covers_of a c ≡ Ok true
 unfolding covers_of
 covers_on a b c e f = on_by (read_of a) (read_of b) (read_of c) e f

@@ -13,20 +13,19 @@ use Rattle.whole.proofs.Parts.{clash}
 use Rattle.letters.specs.Letters.{LetterSet, NoLetters, UtmBands, UpsBands, capital_of, place_from, place_of}
 use Rattle.bands.specs.declared.Grid.{Grid}
 use Rattle.bands.specs.declared.Grid.TheVariants.{Utm, Ups, NoZone}
-use Rattle.letters.specs.declared.Place.TheVariants.{At, NotInSet}
 use Rattle.bands.specs.Bands.{grid_of, by_grid, bands_of}
 use Rattle.letters.proofs.Laws.{no_capital}
 use Rattle.words.specs.Bytes.{high, has_high, is_digit, all_digits}
 use Rattle.runs.specs.Runs.{value_from, value_of, lead_of, last_digits}
 use Rattle.words.proofs.Laws.{digit_range, all_head}
 use Rattle.runs.proofs.Decimals.{digits_length, digits_all, digits_value, low_digits, leading}
-use Rattle.head.specs.declared.HeadAnswer.TheVariants.{Start}
 use Rattle.head.specs.Head.{inv_letters, is_inv, zone_wrong, head_of}
 use Rattle.writer.specs.Text.{head_text}
+use Rattle.std.specs.Prelude.{Some, None, Ok}
 
 -- ---- every letter of a set is a capital
 
-module _ (set : LetterSet) (b k : ℕ) (e : place_of set b ≡ At k) where
+module _ (set : LetterSet) (b k : ℕ) (e : place_of set b ≡ Some k) where
   -- from A to Z
   range_by : (s t : Bool) → leb 65 b ≡ s → leb b 90 ≡ t → (65 ≤ b) × (b ≤ 90)
   range_by true true p q = (leb-true 65 b p, leb-true b 90 q)
@@ -49,13 +48,13 @@ module _ (set : LetterSet) (b k : ℕ) (e : place_of set b ≡ At k) where
   not_high = let r = range in lt-leb 128 b (omega arith)
 
 -- no band is an I
-no_i_by : (g : Grid) → place_of (by_grid g UtmBands UpsBands NoLetters) 73 ≡ NotInSet
+no_i_by : (g : Grid) → place_of (by_grid g UtmBands UpsBands NoLetters) 73 ≡ None
 unfolding place_of place_from
 no_i_by Utm = refl
 no_i_by Ups = refl
 no_i_by NoZone = refl
 
-no_i : (zone : ℤ) (band k : ℕ) → place_of (bands_of zone) band ≡ At k → band ≡ 73 → ⊥
+no_i : (zone : ℤ) (band k : ℕ) → place_of (bands_of zone) band ≡ Some k → band ≡ 73 → ⊥
 unfolding bands_of
 no_i zone band k e i = let n = no_i_by (grid_of zone) in let m = rw i at e in clash (cc)
 
@@ -81,7 +80,7 @@ digit_no_i d t e =
 module _ (zs : List ℕ) (z band k : ℕ) (rest : List ℕ)
     (digits : all_digits zs ≡ true) (value : value_of zs ≡ z) (few : length zs ≤ 2) (most : z ≤ 60)
     (right : zone_wrong (record { count = length zs; value = z }) ≡ false)
-    (place : place_of (bands_of (pos z)) band ≡ At k) (low : has_high rest ≡ false) where
+    (place : place_of (bands_of (pos z)) band ≡ Some k) (low : has_high rest ≡ false) where
   -- the leading digits end at the band
   lead_is : lead_of (zs ++ (band ∷ rest)) ≡ record { count = length zs; value = z }
   unfolding lead_of
@@ -98,7 +97,7 @@ module _ (zs : List ℕ) (z band k : ℕ) (rest : List ℕ)
   first_by (d ∷ ds) t e = digit_no_i d (all_head d ds t) e
 
   -- so the head is found
-  starts_at : head_of (zs ++ (band ∷ rest)) ≡ Start (record { zone = pos z; band = band; next = length zs + 1 })
+  starts_at : head_of (zs ++ (band ∷ rest)) ≡ Ok (record { zone = pos z; band = band; next = length zs + 1 })
   unfolding head_of
   starts_at =
       let more : length zs < length (zs ++ (band ∷ rest)) = simp length-append (omega arith) in
@@ -154,11 +153,11 @@ text_is z band rest = text_by z band rest (ltb z 1)
 -- a text begins with a zone, a band of it, and goes on with a rest
 pub record Starts (s : List ℕ) (zone : ℤ) (band : ℕ) (rest : List ℕ) : Type 0 where
   pub next : ℕ
-  pub is_head : head_of s ≡ Start (record { zone = zone; band = band; next = next })
+  pub is_head : head_of s ≡ Ok (record { zone = zone; band = band; next = next })
   pub after : drop next s ≡ rest
 
 -- what the writer puts in front of a rest begins so
-pub starts : (z band k : ℕ) (rest : List ℕ) → z ≤ 60 → place_of (bands_of (pos z)) band ≡ At k → has_high rest ≡ false → Starts (head_text (pos z) band ++ rest) (pos z) band rest
+pub starts : (z band k : ℕ) (rest : List ℕ) → z ≤ 60 → place_of (bands_of (pos z)) band ≡ Some k → has_high rest ≡ false → Starts (head_text (pos z) band ++ rest) (pos z) band rest
 starts z band k rest h place low =
     let zs = zone_digits z in
     let o = zone_by z h (ltb z 1) refl in

@@ -12,10 +12,11 @@ use Rattle.whole.proofs.Parts.{up, dn, clash, eq_by, sub_parts}
 use Rattle.position.specs.declared.Position.{Position}
 use Rattle.position.specs.Squares.{half_of, side_length, centre, corner_of, holds}
 use Rattle.position.proofs.Squares.{centre_is, corner_is, side_pos, holds_is, holds_none}
-use Rattle.reader.specs.declared.Answer.TheVariants.{Square}
 use Rattle.reader.specs.Read.{read_of}
 use Rattle.laws.specs.Held.{UnitOf, Held}
 use Rattle.laws.proofs.Centre.{centred}
+use Rattle.std.specs.Prelude.{Ok}
+use Rattle.reader.specs.declared.Reading.TheVariants.{Square}
 
 -- the n-th square of p digits along an axis
 module _ (p n : ℕ) (few : p ≤ 11) where
@@ -73,7 +74,7 @@ held_at : (p c : ℤ) (k n : ℕ) → p ≡ pos k → k ≤ 11 → c ≡ pos (ce
 held_at p c k n e few f = rw (e, f) (held k n few)
 
 -- so on both axes of what is read
-pub square_held : (s : List ℕ) (q : Position) → read_of s ≡ Square q → Held q.p q.easting × Held q.p q.northing
+pub square_held : (s : List ℕ) (q : Position) → read_of s ≡ Ok (Square q) → Held q.p q.easting × Held q.p q.northing
 square_held s q e =
     let c = centred s q e in
     (held_at q.p q.easting c.p _ c.precision c.few c.easting, held_at q.p q.northing c.p _ c.precision c.few c.northing)

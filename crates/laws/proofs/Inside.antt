@@ -15,20 +15,19 @@ use Rattle.whole.proofs.Parts.{up, dn, clash, eq_by, sub_parts, ≤ℤ-parts}
 use Rattle.whole.proofs.Table.{alike}
 use Rattle.bands.specs.declared.Grid.TheVariants.{Utm, Ups, NoZone}
 use Rattle.letters.specs.Letters.{UtmBands, UpsBands, UtmColumns0, UtmColumns1, UtmColumns2, UpsRowsSouth, UpsRowsNorth, place_from, place_of, letter_at, first_tile, north_band, east_band}
-use Rattle.letters.specs.declared.Place.TheVariants.{At, NotInSet}
 use Rattle.bands.specs.Bands.{grid_of, bands_of, band_number}
 use Rattle.columns.specs.Columns.{utm_columns, ups_columns, columns_of}
 use Rattle.bands.proofs.Index.{index_is}
 use Rattle.letters.proofs.Laws.{size_of, place_below, place_holds}
 use Rattle.rows.specs.Allowed.{within, same_sign, folded, allowed}
 use Rattle.rows.proofs.Theorems.{in_rows, own_sign}
-use Rattle.ranges.specs.declared.MgrsCheck.TheVariants.{Moved}
 use Rattle.ranges.specs.Ranges.{from_to, eastings}
 use Rattle.position.specs.Units.{tile_at}
 use Rattle.ranges.specs.Edges.{point, mgrs_check}
 use Rattle.ranges.proofs.Stays.{north_stays, south_stays, polar_stays}
 use Rattle.block.specs.Block.{tile_of}
 use Rattle.composer.specs.Compose.{row_of_tile, utm_fits, agree, ups_fits, fits}
+use Rattle.std.specs.Prelude.{Some, None, Ok}
 
 -- ---- the zone
 
@@ -46,12 +45,12 @@ kind_by zone false true c p q r n = absurd (n (rw (p, q)))
 kind_by zone false false c p q r n = record { grid = rw (p, q, r); test = r; in_range = rw (p, q) }
 
 -- without a grid there are no bands
-no_bands : (zone : ℤ) (band k : ℕ) → place_of (bands_of zone) band ≡ At k → grid_of zone ≡ NoZone → ⊥
+no_bands : (zone : ℤ) (band k : ℕ) → place_of (bands_of zone) band ≡ Some k → grid_of zone ≡ NoZone → ⊥
 unfolding bands_of place_of place_from
-no_bands zone band k e g = let x : NotInSet ≡ At k = rw g at e in clash (cc)
+no_bands zone band k e g = let x : None ≡ Some k = rw g at e in clash (cc)
 
 -- so a zone with a band is one
-pub kind : (zone : ℤ) (band k : ℕ) → place_of (bands_of zone) band ≡ At k → Kind zone (lt_z zone (pos 1))
+pub kind : (zone : ℤ) (band k : ℕ) → place_of (bands_of zone) band ≡ Some k → Kind zone (lt_z zone (pos 1))
 kind zone band k e = kind_by zone (lt_z zone (pos 0)) (lt_z (pos 60) zone) (lt_z zone (pos 1)) refl refl refl (no_bands zone band k e)
 
 -- "column index 0..7 is tile 1..8": the columns of a UTM zone are eight, from the first tile on
@@ -71,12 +70,12 @@ utm_columns_lem zone band g = let m = floor_mod (zone -ℤ pos 1) 3 in rw g (col
 pub record Inside (zone : ℤ) (band e n : ℕ) : Type 0 where
   pub fit : fits zone band (north_band band) e n ≡ true
   pub stays : (x y : ℕ) → tile_at x ≡ e → tile_at y ≡ n
-      → mgrs_check zone (north_band band) (pos x) (pos y) ≡ Moved (point (north_band band) (pos x) (pos y))
+      → mgrs_check zone (north_band band) (pos x) (pos y) ≡ Ok (point (north_band band) (pos x) (pos y))
 
 -- ---- UTM: an allowed row
 
 -- the letters from N are the bands from 0 on
-band_side : (band k : ℕ) → place_of UtmBands band ≡ At k → north_band band ≡ same_sign (band_number band) (pos 0)
+band_side : (band k : ℕ) → place_of UtmBands band ≡ Some k → north_band band ≡ same_sign (band_number band) (pos 0)
 unfolding letter_at
 band_side band k e =
     rw (index_is band k e, ← place_holds UtmBands band k e)
@@ -90,7 +89,7 @@ one_side (negsuc b) (pos r) e = e
 one_side (negsuc b) (negsuc r) e = refl
 
 -- so an allowed row is north of the equator exactly if its band is
-pub row_side : (zone : ℤ) (band k c : ℕ) (r : ℤ) → grid_of zone ≡ Utm → place_of (bands_of zone) band ≡ At k → allowed (band_number band) c r ≡ true
+pub row_side : (zone : ℤ) (band k c : ℕ) (r : ℤ) → grid_of zone ≡ Utm → place_of (bands_of zone) band ≡ Some k → allowed (band_number band) c r ≡ true
     → north_band band ≡ same_sign r (pos 0)
 unfolding bands_of
 row_side zone band k c r g e a = band_side band k (rw g at e) ∙ one_side (band_number band) r (own_sign (band_number band) c r a)
@@ -106,7 +105,7 @@ row_back (negsuc n) h =
 
 -- a point in it stays
 row_stays : (zone r : ℤ) (x y : ℕ) → grid_of zone ≡ Utm → negsuc 89 ≤ℤ r → r ≤ℤ pos 94 → 1 ≤ tile_at x → tile_at x < 9 → tile_at y ≡ tile_of r
-    → mgrs_check zone (same_sign r (pos 0)) (pos x) (pos y) ≡ Moved (point (same_sign r (pos 0)) (pos x) (pos y))
+    → mgrs_check zone (same_sign r (pos 0)) (pos x) (pos y) ≡ Ok (point (same_sign r (pos 0)) (pos x) (pos y))
 unfolding up dn
 row_stays zone (pos n) x y g h k a b e = north_stays zone x y g a b (omega (arith, ≤ℤ-parts (pos n) (pos 94) k))
 row_stays zone (negsuc n) x y g h k a b e =
@@ -119,7 +118,7 @@ unfolding allowed
 column_le b c r a = leb→le c 7 (and_yes (leb c 7) (within b r || folded b c r) (subst T (sym a) tt)).0
 
 -- so the tiles of a column and an allowed row are inside
-pub utm_inside : (zone : ℤ) (band k c : ℕ) (r : ℤ) → Kind zone false → place_of (bands_of zone) band ≡ At k → allowed (band_number band) c r ≡ true
+pub utm_inside : (zone : ℤ) (band k c : ℕ) (r : ℤ) → Kind zone false → place_of (bands_of zone) band ≡ Some k → allowed (band_number band) c r ≡ true
     → Inside zone band (1 + c) (tile_of r)
 unfolding fits utm_fits
 utm_inside zone band k c r z p a =
@@ -155,7 +154,7 @@ abbrev pub half_tiles : ℕ → ℕ × ℕ
 half_tiles b = (west_tile (north_band b) (east_band b), east_tile (north_band b) (east_band b))
 
 -- they are the same, by one computation over the four bands
-pub half_columns : (band k : ℕ) → place_of UpsBands band ≡ At k → column_tiles band ≡ half_tiles band
+pub half_columns : (band k : ℕ) → place_of UpsBands band ≡ Some k → column_tiles band ≡ half_tiles band
 unfolding letter_at first_tile ups_columns east_band
 half_columns band k e =
     rw (← place_holds UpsBands band k e)

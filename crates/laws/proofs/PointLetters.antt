@@ -10,7 +10,6 @@ use mir.Facts.{and_yes}
 use Rattle.whole.proofs.Parts.{up, dn, T_true, eq_by, sub_parts}
 use Rattle.letters.specs.Letters.{LetterSet, UtmRows, place_of, first_tile, north_band, east_band}
 use Rattle.bands.specs.declared.Grid.TheVariants.{Utm}
-use Rattle.letters.specs.declared.Place.TheVariants.{At}
 use Rattle.bands.specs.Bands.{band_number, grid_of, bands_of}
 use Rattle.columns.specs.Columns.{columns_of}
 use Rattle.row_letters.specs.RowLetters.{rows_of}
@@ -22,6 +21,7 @@ use Rattle.rows.proofs.Theorems.{found}
 use Rattle.block.specs.Block.{tile_of, tiles_of, utm_block, block_of}
 use Rattle.laws.proofs.Inside.{row_side, utm_columns_lem, low_tile, high_tile, west_tile, east_tile, half_columns, hemisphere_rows}
 use Rattle.composer.specs.Compose.{row_of_tile, letter_of_tile, utm_fits, agree, ups_fits, fits, row_letter}
+use Rattle.std.specs.Prelude.{Some}
 
 -- ---- a tile of a set has its letter there
 
@@ -35,7 +35,7 @@ abbrev TileOf : LetterSet → ℕ → Type 0
 TileOf set t = In (first_tile set) (first_tile set + size_of set) t
 
 -- its letter stands at the tile less the set's first, and is read as the tile again
-tile_letter : (set : LetterSet) (t : ℕ) → TileOf set t → place_of set (letter_of_tile set t) ≡ At (t - first_tile set)
+tile_letter : (set : LetterSet) (t : ℕ) → TileOf set t → place_of set (letter_of_tile set t) ≡ Some (t - first_tile set)
 unfolding letter_of_tile
 tile_letter set t i =
     let h = i.least in
@@ -86,7 +86,7 @@ module _ (z band k : ℕ) (north : Bool) (column tile : ℕ) (least : 1 ≤ z) (
   unfolding rows_of
   utm_rows side = rw (utm_grid z least most)
 
-  module _ (place : place_of (bands_of (pos z)) band ≡ At k) (fit : fits (pos z) band north column tile ≡ true)
+  module _ (place : place_of (bands_of (pos z)) band ≡ Some k) (fit : fits (pos z) band north column tile ≡ true)
       (from : 1 ≤ column) (to : column < 9) (south : north ≡ false → tile < 100) where
     -- the point's row is allowed for the band and the column
     is_allowed : allowed (band_number band) (column - 1) (row_of_tile north tile) ≡ true
@@ -99,14 +99,14 @@ module _ (z band k : ℕ) (north : Bool) (column tile : ℕ) (least : 1 ≤ z) (
         row_side (pos z) band k (column - 1) (row_of_tile north tile) (utm_grid z least most) place is_allowed ∙ tile_side north tile south
 
     -- where the two letters stand
-    utm_column : place_of (columns_of (pos z) band) (letter_of_tile (columns_of (pos z) band) column) ≡ At (column - 1)
+    utm_column : place_of (columns_of (pos z) band) (letter_of_tile (columns_of (pos z) band) column) ≡ Some (column - 1)
     utm_column =
         let c = utm_columns_lem (pos z) band (utm_grid z least most) in
         let f = c.0 in
         let s = c.1 in
-        tile_letter (columns_of (pos z) band) column (record { least = omega arith; lt = omega arith }) ∙ ap (λ (x : ℕ). At (column - x)) f
+        tile_letter (columns_of (pos z) band) column (record { least = omega arith; lt = omega arith }) ∙ ap (λ (x : ℕ). Some (column - x)) f
 
-    utm_row : place_of (rows_of (pos z) (north_band band)) (row_letter (pos z) north tile) ≡ At (letter_of (shift_of (pos z)) (row_of_tile north tile))
+    utm_row : place_of (rows_of (pos z) (north_band band)) (row_letter (pos z) north tile) ≡ Some (letter_of (shift_of (pos z)) (row_of_tile north tile))
     unfolding row_letter
     utm_row =
         rw (le-ltb z 1 least, utm_rows (north_band band), utm_rows north)
@@ -138,7 +138,7 @@ in_half : (north east : Bool) (column : ℕ) → leb 20 column ≡ east → low_
 in_half north true column e h g = record { least = leb-true 20 column e; lt = g }
 in_half north false column e h g = record { least = h; lt = leb-false 20 column e }
 
-module _ (band k : ℕ) (north : Bool) (column tile : ℕ) (place : place_of (bands_of (pos 0)) band ≡ At k) (fit : fits (pos 0) band north column tile ≡ true)
+module _ (band k : ℕ) (north : Bool) (column tile : ℕ) (place : place_of (bands_of (pos 0)) band ≡ Some k) (fit : fits (pos 0) band north column tile ≡ true)
     (from : low_tile north ≤ column) (to : column < high_tile north) (low : low_tile north ≤ tile) (high : tile < high_tile north) where
   -- "hemisphere and side agree"
   sides : (north ≡ north_band band) × (leb 20 column ≡ east_band band)
@@ -159,7 +159,7 @@ module _ (band k : ℕ) (north : Bool) (column tile : ℕ) (place : place_of (ba
   row_in = rw ((hemisphere_rows north).1, (hemisphere_rows north).0) (record { least = low; lt = high })
 
   -- so the block answers the tiles
-  ups_row : place_of (rows_of (pos 0) north) (row_letter (pos 0) north tile) ≡ At (tile - first_tile (rows_of (pos 0) north))
+  ups_row : place_of (rows_of (pos 0) north) (row_letter (pos 0) north tile) ≡ Some (tile - first_tile (rows_of (pos 0) north))
   unfolding row_letter
   ups_row = tile_letter (rows_of (pos 0) north) tile row_in
 

@@ -11,20 +11,17 @@ use lib.ListN.{length, take, drop, length-drop, take-append-drop}
 use Rattle.whole.specs.Compare.{outside}
 use Rattle.whole.proofs.Parts.{clash}
 use Rattle.letters.specs.Letters.{LetterSet, capital_of, place_of}
-use Rattle.letters.specs.declared.Place.TheVariants.{At, NotInSet}
 use Rattle.letters.proofs.Laws.{no_capital}
 use Rattle.position.specs.declared.Position.{Position}
 use Rattle.position.specs.Squares.{corner_of, south_west}
 use Rattle.words.specs.Bytes.{all_digits}
 use Rattle.words.proofs.Laws.{digit_range, all_head, all_tail}
-use Rattle.reader.specs.declared.Answer.TheVariants.{Square, Bare}
 use Rattle.head.specs.Head.{letter_in}
 use Rattle.block.specs.Bare.{bare_of}
 use Rattle.reader.specs.Read.{square_of, read_of}
 use Rattle.block.proofs.Placed.{placed}
 use Rattle.reader.proofs.Stages.{squared, bared}
 use Rattle.runs.proofs.Halves.{halved_by}
-use Rattle.composer.specs.declared.Composed.TheVariants.{Bare as BareText}
 use Rattle.writer.specs.Text.{head_text}
 use Rattle.composer.specs.Compose.{made_of}
 use Rattle.laws.specs.Sound.{rest_of}
@@ -33,6 +30,9 @@ use Rattle.laws.proofs.BarePoints.{bare_point}
 use Rattle.laws.specs.Squares.{short_text}
 use Rattle.laws.proofs.Corners.{written, from_tiles, head_place, told, short_writes}
 use lib.Seq.{take_all}
+use Rattle.std.specs.Prelude.{Some, None, Ok}
+use Rattle.reader.specs.declared.Reading.TheVariants.{Square, Bare}
+use Rattle.composer.specs.declared.Reference.TheVariants.{Bare as BareText}
 
 -- ---- the bytes
 
@@ -47,12 +47,12 @@ digits_same [] t = refl
 digits_same (d ∷ ds) t = rw (digit_same d (digit_range d (all_head d ds t)).1, digits_same ds (all_tail d ds t))
 
 -- no set has the byte that stands for none
-not_none : (set : LetterSet) (c : ℕ) → place_of set (capital_of 0) ≡ At c → ⊥
+not_none : (set : LetterSet) (c : ℕ) → place_of set (capital_of 0) ≡ Some c → ⊥
 unfolding capital_of
-not_none set c e = let k : NotInSet ≡ At c = sym (no_capital set 0 (λ h g. omega arith)) ∙ e in clash (cc)
+not_none set c e = let k : None ≡ Some c = sym (no_capital set 0 (λ h g. omega arith)) ∙ e in clash (cc)
 
 -- two letters and digits, in capitals
-letters_and_digits : (set other : LetterSet) (c l : ℕ) (rest : List ℕ) → place_of set (letter_in rest 0) ≡ At c → place_of other (letter_in rest 1) ≡ At l
+letters_and_digits : (set other : LetterSet) (c l : ℕ) (rest : List ℕ) → place_of set (letter_in rest 0) ≡ Some c → place_of other (letter_in rest 1) ≡ Some l
     → all_digits (drop 2 rest) ≡ true → letter_in rest 0 ∷ letter_in rest 1 ∷ drop 2 rest ≡ in_capitals rest
 unfolding in_capitals
 letters_and_digits set other c l [] x y t = absurd (not_none set c x)
@@ -67,7 +67,7 @@ all_digits_lem ds p h =
 
 -- so a text shortened to all of its digits is the canonical one
 whole_text : (zone : ℤ) (band c l p : ℕ) (set other : LetterSet) (rest : List ℕ) → length (drop 2 rest) ≡ 2 * p → all_digits (drop 2 rest) ≡ true
-    → place_of set (letter_in rest 0) ≡ At c → place_of other (letter_in rest 1) ≡ At l
+    → place_of set (letter_in rest 0) ≡ Some c → place_of other (letter_in rest 1) ≡ Some l
     → head_text zone band ++ (letter_in rest 0 ∷ letter_in rest 1 ∷ (take p (drop 2 rest) ++ take p (drop p (drop 2 rest)))) ≡ head_text zone band ++ in_capitals rest
 whole_text zone band c l p set other rest h t x y =
     rw (all_digits_lem (drop 2 rest) p h, letters_and_digits set other c l rest x y t)
@@ -86,7 +86,7 @@ bare_text zone band (b ∷ rest) h = absurd (omega arith)
 -- ---- the theorems
 
 -- a square returns from its south-west corner: it is shortened to all of its digits
-pub square_returns : (s : List ℕ) (q : Position) → read_of s ≡ Square q → Returns s (south_west q)
+pub square_returns : (s : List ℕ) (q : Position) → read_of s ≡ Ok (Square q) → Returns s (south_west q)
 unfolding square_of
 square_returns s q e =
     let a = squared s q e in
@@ -105,7 +105,7 @@ square_returns s q e =
     }
 
 -- a bare zone returns from its point
-pub bare_returns : (s : List ℕ) (q : Position) → read_of s ≡ Bare q → Returns s q
+pub bare_returns : (s : List ℕ) (q : Position) → read_of s ≡ Ok (Bare q) → Returns s q
 unfolding bare_of made_of
 bare_returns s q e =
     let a = bared s q e in
@@ -118,6 +118,6 @@ bare_returns s q e =
     (record {
       head = h;
       zone_and_band = a.is_head;
-      bytes = written (bare_of h.zone h.band) (BareText (record { zone = h.zone; band = h.band })) (canonical s h)
+      bytes = written (bare_of h.zone h.band) (Ok (BareText (record { zone = h.zone; band = h.band }))) (canonical s h)
           (rw (o.easting.is, o.northing.is) c) (λ m. rw t) (λ l. rw t);
     })

@@ -9,12 +9,13 @@ use borrow.Author.Tests.{le-ltb}
 use lib.IntN.{pos}
 use Rattle.whole.specs.Compare.{outside}
 use Rattle.position.specs.declared.Position.{Position}
-use Rattle.reader.specs.declared.Answer.TheVariants.{Square}
 use Rattle.reader.specs.Read.{read_of}
 use Rattle.reader.proofs.Stages.{squared}
 use Rattle.squares.specs.Shorten.{corner_written, corner_leaves, short_of, short_leaves}
 use Rattle.laws.specs.Squares.{Shortens}
 use Rattle.laws.proofs.Corners.{told, short_writes}
+use Rattle.std.specs.Prelude.{Ok}
+use Rattle.reader.specs.declared.Reading.TheVariants.{Square}
 
 -- q is one of 0..p
 short_in : (x : Position) (p q : ℕ) → q ≤ p → x.p ≡ pos p → outside (pos 0) x.p (pos q) ≡ false
@@ -22,7 +23,7 @@ unfolding outside
 short_in x p q le w = rw (w, le-ltb q 0 (omega arith), le-ltb p q le)
 
 -- a square that is read is shortened to its first q digits
-pub shortens : (s : List ℕ) (x : Position) (p q : ℕ) → read_of s ≡ Square x → x.p ≡ pos p → q ≤ p → Shortens s p q
+pub shortens : (s : List ℕ) (x : Position) (p q : ℕ) → read_of s ≡ Ok (Square x) → x.p ≡ pos p → q ≤ p → Shortens s p q
 unfolding short_of short_leaves corner_written corner_leaves
 shortens s x p q e w le =
     let a = squared s x e in

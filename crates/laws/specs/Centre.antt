@@ -1,12 +1,10 @@
 -- What a square that is read stands for: "the centre on each axis is (2N+1) x 10^(11-p) units, N being the tile followed
 -- by its digits." Assumes nothing.
-use Rattle.std.specs.Prelude.{◌≡◌, List, ℕ, ◌+◌, ◌*◌, ◌-◌, ◌^◌, ◌≤◌, pos, length, take, drop}
+use Rattle.std.specs.Prelude.{◌≡◌, List, ℕ, ◌+◌, ◌*◌, ◌-◌, ◌^◌, ◌≤◌, pos, length, take, drop, Ok}
 use Rattle.runs.specs.Runs.{value_of}
 use Rattle.position.specs.declared.Position.{Position}
 use Rattle.head.specs.declared.Head.{Head}
-use Rattle.head.specs.declared.HeadAnswer.TheVariants.{Start}
 use Rattle.block.specs.declared.Tiles.{Tiles}
-use Rattle.block.specs.declared.BlockAnswer.TheVariants.{Block}
 use Rattle.head.specs.Head.{letter_in, head_of}
 use Rattle.block.specs.Block.{block_of}
 use Rattle.laws.specs.Sound.{rest_of}
@@ -18,9 +16,9 @@ number p tile digits = tile * 10 ^ p + value_of digits
 -- The head, the block and the digits of the text make the position.
 pub record Centred (s : List ℕ) (q : Position) : Type 0 where
   pub head : Head
-  pub zone_and_band : head_of s ≡ Start head
+  pub zone_and_band : head_of s ≡ Ok head
   pub tiles : Tiles
-  pub block : block_of head.zone head.band (letter_in (rest_of s head) 0) (letter_in (rest_of s head) 1) ≡ Block tiles
+  pub block : block_of head.zone head.band (letter_in (rest_of s head) 0) (letter_in (rest_of s head) 1) ≡ Ok tiles
   pub p : ℕ
   pub precision : q.p ≡ pos p
   pub few : p ≤ 11

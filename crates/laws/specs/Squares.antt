@@ -1,9 +1,7 @@
 -- What shortening writes, and what a reference covers: document 01, "Smaller services". Assumes nothing.
-use Rattle.std.specs.Prelude.{◌≡◌, List, ◌∷◌, ◌++◌, ℕ, ◌≤◌, pos, length, take, drop}
+use Rattle.std.specs.Prelude.{◌≡◌, List, ◌∷◌, ◌++◌, ℕ, ◌≤◌, pos, length, take, drop, Ok}
 use Rattle.head.specs.declared.Head.{Head}
-use Rattle.head.specs.declared.HeadAnswer.TheVariants.{Start}
 use Rattle.head.specs.Head.{letter_in, head_of}
-use Rattle.writer.specs.declared.Written.TheVariants.{Length}
 use Rattle.writer.specs.Text.{head_text}
 use Rattle.squares.specs.Shorten.{short_of, short_leaves}
 use Rattle.laws.specs.Sound.{rest_of}
@@ -18,6 +16,6 @@ short_text s head p q =
 -- In every buffer with room that is what shortening writes: it "never meets 14 to 19".
 pub record Shortens (s : List ℕ) (p q : ℕ) : Type 0 where
   pub head : Head
-  pub zone_and_band : head_of s ≡ Start head
-  pub answer : (l : List ℕ) → length (short_text s head p q) ≤ length l → short_of s (pos q) (length l) ≡ Length (length (short_text s head p q))
+  pub zone_and_band : head_of s ≡ Ok head
+  pub answer : (l : List ℕ) → length (short_text s head p q) ≤ length l → short_of s (pos q) (length l) ≡ Ok (length (short_text s head p q))
   pub buffer : (l : List ℕ) → length (short_text s head p q) ≤ length l → short_leaves s (pos q) l ≡ short_text s head p q ++ drop (length (short_text s head p q)) l

@@ -1,9 +1,9 @@
 -- Document 01, "References on each side of a rule": those with *, in its order, with its metres: read, in canonical form,
 -- written. And every bare zone of one UTM zone, 31V and the four of UPS, by its formulas. Assumes nothing.
-use Rattle.std.specs.Prelude.{true, false, List, [], ◌∷◌}
+use Rattle.std.specs.Prelude.{true, false, List, [], ◌∷◌, Err}
 use Prim.Native.Char.{code}
-use Rattle.reader.specs.declared.Answer.TheVariants.{Refused}
 use Rattle.laws.specs.Tables.{Example, square, bare, reads, writes, returns}
+use Rattle.rules.specs.declared.Refusal.TheVariants.{LongZone, NoAllowedRow}
 
 abbrev pub starred : List Example
 starred =
@@ -13,11 +13,11 @@ starred =
     ∷ returns "4qfj" "04QFJ"
     ∷ reads "31V" (bare 31 true (code "V") 400000 6700000)
     ∷ reads "31WCL" (square 31 true (code "W") 0 35000000 705000000)
-    ∷ reads "31WBL" (Refused 10)
+    ∷ reads "31WBL" (Err NoAllowedRow)  -- 10
     ∷ reads "31VCM" (square 31 true (code "V") 0 35000000 715000000)
-    ∷ reads "31VDM" (Refused 10)
-    ∷ reads "018T" (Refused 4)
-    ∷ reads "18TWA" (Refused 10)
+    ∷ reads "31VDM" (Err NoAllowedRow)  -- 10
+    ∷ reads "018T" (Err LongZone)  -- 4
+    ∷ reads "18TWA" (Err NoAllowedRow)  -- 10
     ∷ writes 18 true 5 900000 4500000 (code "T") "18TZL9999900000"
     ∷ writes 18 false 5 500000 10000000 (code "M") "18MWE0000099999"
     ∷ []

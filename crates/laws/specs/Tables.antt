@@ -1,51 +1,50 @@
 -- Texts beside what they are read as and points beside what they are written as, so that all examples stand in one table
 -- under one claim. Assumes nothing.
-use Rattle.std.specs.Prelude.{◌≡◌, Bool, ◌⊎◌, List, [], ◌∷◌, ◌++◌, ℕ, ◌*◌, pos, negsuc, length, drop}
+use Rattle.std.specs.Prelude.{◌≡◌, Bool, ◌⊎◌, List, [], ◌∷◌, ◌++◌, ℕ, ◌*◌, pos, negsuc, length, drop, Result, Ok, Err}
 use Rattle.std.proofs.Common.{inl, inr}
 use Prim.Native.String.{String}
 use Rattle.whole.specs.Text.{bytes}
 use Rattle.position.specs.declared.Position.{Position}
 use Rattle.position.specs.Squares.{south_west}
-use Rattle.reader.specs.declared.Answer.{Answer}
-use Rattle.reader.specs.declared.Answer.TheVariants.{Square, Bare, Refused}
 use Rattle.reader.specs.Read.{read_of}
-use Rattle.writer.specs.declared.Written.{Written}
-use Rattle.writer.specs.declared.Written.TheVariants.{Length}
 use Rattle.writer.specs.Write.{write_of, write_leaves}
 use Rattle.laws.specs.Trips.{write_at, leaves_at}
+use Rattle.rules.specs.declared.Refusal.{Refusal}
+use Rattle.reader.specs.declared.Reading.{Reading}
+use Rattle.reader.specs.declared.Reading.TheVariants.{Square, Bare}
 
 -- A square of zone, north, band, p, and easting and northing in centimetres: 20,000 units to each.
-abbrev pub square : ℕ → Bool → ℕ → ℕ → ℕ → ℕ → Answer
-square zone north band p e n = Square (record {
+abbrev pub square : ℕ → Bool → ℕ → ℕ → ℕ → ℕ → Result (Reading Position) Refusal
+square zone north band p e n = Ok (Square (record {
   zone = pos zone;
   north = north;
   band = band;
   p = pos p;
   easting = pos (e * 20000);
   northing = pos (n * 20000);
-})
+}))
 
 -- A bare zone, its point in metres.
-abbrev pub bare : ℕ → Bool → ℕ → ℕ → ℕ → Answer
-bare zone north band e n = Bare (record {
+abbrev pub bare : ℕ → Bool → ℕ → ℕ → ℕ → Result (Reading Position) Refusal
+bare zone north band e n = Ok (Bare (record {
   zone = pos zone;
   north = north;
   band = band;
   p = negsuc 0;
   easting = pos (e * 2000000);
   northing = pos (n * 2000000);
-})
+}))
 
 -- What an example comes to: an answer of reading, or one of writing beside what the buffer then holds.
 abbrev pub Outcome : Type 0
-Outcome = Answer ⊎ (Written × List ℕ)
+Outcome = Result (Reading Position) Refusal ⊎ (Result ℕ Refusal × List ℕ)
 
 -- What the definitions give, and what document 01 says.
 abbrev pub Example : Type 0
 Example = Outcome × Outcome
 
 -- A text and what it is read as.
-abbrev pub reads : String → Answer → Example
+abbrev pub reads : String → Result (Reading Position) Refusal → Example
 reads text answer = (inl (read_of (bytes text)), inl answer)
 
 -- The buffer of the examples: twenty bytes, so that those beyond a text are seen to stay.
@@ -53,7 +52,7 @@ abbrev pub dots : List ℕ
 dots = bytes "...................."
 
 abbrev pub text_in_dots : String → Outcome
-text_in_dots text = inr (Length (length (bytes text)), bytes text ++ drop (length (bytes text)) dots)
+text_in_dots text = inr (Ok (length (bytes text)), bytes text ++ drop (length (bytes text)) dots)
 
 -- A point of zone, north, p, easting and northing in metres and band, and what it is written as.
 abbrev pub writes : ℕ → Bool → ℕ → ℕ → ℕ → ℕ → String → Example
@@ -68,10 +67,10 @@ writes zone north p e n band text =
 abbrev pub again : Position → Outcome
 again q = inr (write_at q (length dots), leaves_at q dots)
 
-abbrev pub rewritten : Answer → Outcome
-rewritten (Square q) = again (south_west q)
-rewritten (Bare q) = again q
-rewritten (Refused n) = inl (Refused n)
+abbrev pub rewritten : Result (Reading Position) Refusal → Outcome
+rewritten (Ok (Square q)) = again (south_west q)
+rewritten (Ok (Bare q)) = again q
+rewritten (Err n) = inl (Err n)
 
 -- A text and its canonical form.
 abbrev pub returns : String → String → Example

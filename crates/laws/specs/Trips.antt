@@ -1,29 +1,25 @@
 -- The round trips of demand 3: what is read and then written, what is written and then read. Assumes nothing.
-use Rattle.std.specs.Prelude.{◌≡◌, Bool, true, false, cond, List, [], ◌∷◌, ◌++◌, ℕ, ◌+◌, ◌*◌, ◌≤◌, ℤ, pos, negsuc, length, drop}
+use Rattle.std.specs.Prelude.{◌≡◌, Bool, true, false, cond, List, [], ◌∷◌, ◌++◌, ℕ, ◌+◌, ◌*◌, ◌≤◌, ℤ, pos, negsuc, length, drop, Result, Ok, Err}
 use Rattle.std.specs.Int.Signed.{lt_z}
 use Rattle.whole.specs.Floor.{fold}
 use Rattle.letters.specs.Letters.{capital_of}
 use Rattle.position.specs.declared.Position.{Position}
 use Rattle.ranges.specs.declared.Point.{Point}
-use Rattle.ranges.specs.declared.MgrsCheck.{MgrsCheck}
-use Rattle.ranges.specs.declared.MgrsCheck.TheVariants.{Moved, Refused as OutOfRange}
 use Rattle.ranges.specs.Edges.{mgrs_check}
 use Rattle.position.specs.Squares.{centre_of, holds}
 use Rattle.head.specs.declared.Head.{Head}
-use Rattle.head.specs.declared.HeadAnswer.TheVariants.{Start}
-use Rattle.reader.specs.declared.Answer.{Answer}
-use Rattle.reader.specs.declared.Answer.TheVariants.{Square, Bare, Refused}
 use Rattle.head.specs.Head.{head_of}
 use Rattle.block.specs.Bare.{bare_of}
-use Rattle.composer.specs.declared.Composed.{Composed}
-use Rattle.composer.specs.declared.Composed.TheVariants.{Full, Bare as BareText, Refused as NotComposed}
-use Rattle.writer.specs.declared.Written.{Written}
-use Rattle.writer.specs.declared.Written.TheVariants.{Length}
 use Rattle.writer.specs.Text.{head_text}
 use Rattle.position.specs.Units.{tile_at}
 use Rattle.composer.specs.Compose.{cut_of, composed}
 use Rattle.writer.specs.Write.{write_of, write_leaves}
 use Rattle.laws.specs.Sound.{rest_of}
+use Rattle.rules.specs.declared.Refusal.{Refusal}
+use Rattle.reader.specs.declared.Reading.{Reading}
+use Rattle.reader.specs.declared.Reading.TheVariants.{Square, Bare}
+use Rattle.composer.specs.declared.Reference.{Reference}
+use Rattle.composer.specs.declared.Reference.TheVariants.{Full, Bare as BareText}
 
 -- "Length: 5+2p UTM, 3+2p UPS; bare 3 and 1."
 abbrev pub length_of : ℤ → ℤ → ℕ
@@ -43,7 +39,7 @@ canonical s head = head_text head.zone head.band ++ in_capitals (rest_of s head)
 
 -- "Written from .. with its zone, hemisphere, band and digit count": of a position, the answer in a buffer of m bytes, and what
 -- the buffer then holds.
-abbrev pub write_at : Position → ℕ → Written
+abbrev pub write_at : Position → ℕ → Result ℕ Refusal
 write_at q m = write_of q.zone q.north q.band q.p q.easting q.northing m
 
 abbrev pub leaves_at : Position → List ℕ → List ℕ
@@ -51,13 +47,13 @@ leaves_at q l = write_leaves q.zone q.north q.band q.p q.easting q.northing l
 
 -- A position is written as a text, "given room": the answer is its length, the buffer holds it and beyond it what it held.
 pub record Writes (q : Position) (t : List ℕ) : Type 0 where
-  pub answer : (l : List ℕ) → length t ≤ length l → write_at q (length l) ≡ Length (length t)
+  pub answer : (l : List ℕ) → length t ≤ length l → write_at q (length l) ≡ Ok (length t)
   pub buffer : (l : List ℕ) → length t ≤ length l → leaves_at q l ≡ t ++ drop (length t) l
 
 -- A position is written as the canonical bytes of a text.
 pub record Returns (s : List ℕ) (q : Position) : Type 0 where
   pub head : Head
-  pub zone_and_band : head_of s ≡ Start head
+  pub zone_and_band : head_of s ≡ Ok head
   pub bytes : Writes q (canonical s head)
 
 -- ---- writing, then reading
@@ -77,24 +73,24 @@ square_at zone band p point = record {
   northing = around p point.northing;
 }
 
-abbrev pub landed : MgrsCheck → (Point → Answer) → Answer
-landed (OutOfRange k) rest = Refused k
-landed (Moved point) rest = rest point
+abbrev pub landed : Result Point Refusal → (Point → Result (Reading Position) Refusal) → Result (Reading Position) Refusal
+landed (Err k) rest = Err k
+landed (Ok point) rest = rest point
 
 -- What is read of what is written: a refusal where the writer refuses, a bare zone of that zone and band, or the square of
 -- the point after the edge rules.
-abbrev pub back_from : ℤ → Bool → ℕ → ℤ → ℤ → ℤ → Composed → Answer
-back_from zone north band p e n (NotComposed k) = Refused k
-back_from zone north band p e n (BareText z) = Bare (bare_of zone band)
-back_from zone north band p e n (Full parts) = landed (mgrs_check zone north e n) (λ point. Square (square_at zone band p point))
+abbrev pub back_from : ℤ → Bool → ℕ → ℤ → ℤ → ℤ → Result Reference Refusal → Result (Reading Position) Refusal
+back_from zone north band p e n (Err k) = Err k
+back_from zone north band p e n (Ok (BareText z)) = Ok (Bare (bare_of zone band))
+back_from zone north band p e n (Ok (Full parts)) = landed (mgrs_check zone north e n) (λ point. Ok (Square (square_at zone band p point)))
 
-unfoldable pub back_of : ℤ → Bool → ℕ → ℤ → ℤ → ℤ → Answer
+unfoldable pub back_of : ℤ → Bool → ℕ → ℤ → ℤ → ℤ → Result (Reading Position) Refusal
 back_of zone north band p e n = back_from zone north band p e n (composed zone north band p e n)
 
 -- "reads back to that zone, band and digit count and, unless bare, to the square holding the point after the edge rules"
-pub record SquareBack (zone : ℤ) (band : ℕ) (p : ℤ) (point : Point) (a : Answer) : Type 0 where
+pub record SquareBack (zone : ℤ) (band : ℕ) (p : ℤ) (point : Point) (a : Result (Reading Position) Refusal) : Type 0 where
   pub q : Position
-  pub is : a ≡ Square q
+  pub is : a ≡ Ok (Square q)
   pub zone_is : q.zone ≡ zone
   pub band_is : q.band ≡ band
   pub p_is : q.p ≡ p
@@ -102,17 +98,17 @@ pub record SquareBack (zone : ℤ) (band : ℕ) (p : ℤ) (point : Point) (a : A
   pub east : holds p q.easting point.easting ≡ true
   pub north : holds p q.northing point.northing ≡ true
 
-pub record BareBack (zone : ℤ) (band : ℕ) (a : Answer) : Type 0 where
+pub record BareBack (zone : ℤ) (band : ℕ) (a : Result (Reading Position) Refusal) : Type 0 where
   pub q : Position
-  pub is : a ≡ Bare q
+  pub is : a ≡ Ok (Bare q)
   pub zone_is : q.zone ≡ zone
   pub band_is : q.band ≡ band
   pub p_is : q.p ≡ negsuc 0
 
 -- "All that the writer writes reads back to that zone, band and digit count and, unless bare, to the square holding the point
 -- after the edge rules": of what was asked for, and of the answer of reading.
-pub record ReadsBack (zone : ℤ) (north : Bool) (band : ℕ) (p e n : ℤ) (a : Answer) : Type 0 where
+pub record ReadsBack (zone : ℤ) (north : Bool) (band : ℕ) (p e n : ℤ) (a : Result (Reading Position) Refusal) : Type 0 where
   pub point : Point
-  pub is_point : mgrs_check zone north e n ≡ Moved point
+  pub is_point : mgrs_check zone north e n ≡ Ok point
   pub square : lt_z p (pos 0) ≡ false → SquareBack zone band p point a
   pub bare : lt_z p (pos 0) ≡ true → (p ≡ negsuc 0) × BareBack zone band a

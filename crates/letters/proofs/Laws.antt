@@ -14,9 +14,8 @@ use lib.ListN.{length, get_or, get_or-eq_default}
 use Rattle.whole.proofs.Parts.{clash}
 use Rattle.whole.proofs.Table.{all, each, every, every_head, every_tail}
 use Rattle.letters.specs.Letters.{LetterSet, letters_of, place_from, place_of, letter_at, first_tile}
-use Rattle.letters.specs.declared.Place.{Place}
-use Rattle.letters.specs.declared.Place.TheVariants.{At, NotInSet}
 use Rattle.letters.proofs.Sets.{set_at, for_all}
+use Rattle.std.specs.Prelude.{Option, Some, None}
 
 -- at the i-th place of a list from i on: the j-th place holds x
 record Placed (i : ℕ) (set : List ℕ) (x j : ℕ) : Type 0 where
@@ -25,13 +24,13 @@ record Placed (i : ℕ) (set : List ℕ) (x j : ℕ) : Type 0 where
   pub below : step < length set
   pub holds : get_or set step 0 ≡ x
 
-placed_by : (i y : ℕ) (ys : List ℕ) (x j : ℕ) → (place_from (suc i) ys x ≡ At j → Placed (suc i) ys x j) → (t : Bool) → eqb y x ≡ t → cond t (At i) (place_from (suc i) ys x) ≡ At j → Placed i (y ∷ ys) x j
+placed_by : (i y : ℕ) (ys : List ℕ) (x j : ℕ) → (place_from (suc i) ys x ≡ Some j → Placed (suc i) ys x j) → (t : Bool) → eqb y x ≡ t → cond t (Some i) (place_from (suc i) ys x) ≡ Some j → Placed i (y ∷ ys) x j
 placed_by i y ys x j later true q e = record { step = 0; is = let p : i ≡ j = cc in omega arith; below = omega arith; holds = eqb-true y x q }
 placed_by i y ys x j later false q e =
     let p = later e in
     record { step = suc p.step; is = omega (arith, p.is); below = omega (arith, p.below); holds = p.holds }
 
-placed : (i : ℕ) (set : List ℕ) (x j : ℕ) → place_from i set x ≡ At j → Placed i set x j
+placed : (i : ℕ) (set : List ℕ) (x j : ℕ) → place_from i set x ≡ Some j → Placed i set x j
 unfolding place_from
 placed i [] x j e = clash (cc)
 placed i (y ∷ ys) x j e = placed_by i y ys x j (placed (suc i) ys x j) (eqb y x) refl e
@@ -40,11 +39,11 @@ abbrev pub size_of : LetterSet → ℕ
 size_of set = length (letters_of set)
 
 -- a place that was found is one of the set, and the letter stands there
-pub place_below : (set : LetterSet) (b k : ℕ) → place_of set b ≡ At k → k < size_of set
+pub place_below : (set : LetterSet) (b k : ℕ) → place_of set b ≡ Some k → k < size_of set
 unfolding place_of
 place_below set b k e = let p = placed 0 (letters_of set) b k e in omega (arith, p.is, p.below)
 
-pub place_holds : (set : LetterSet) (b k : ℕ) → place_of set b ≡ At k → letter_at set k ≡ b
+pub place_holds : (set : LetterSet) (b k : ℕ) → place_of set b ≡ Some k → letter_at set k ≡ b
 unfolding place_of letter_at
 place_holds set b k e =
     let p = placed 0 (letters_of set) b k e in
@@ -52,13 +51,13 @@ place_holds set b k e =
     ap (λ (j : ℕ). get_or (letters_of set) j 0) q ∙ p.holds
 
 -- and back: no set has a letter twice, by one computation over all of them
-abbrev is_at : Place → ℕ → Bool
-is_at (At j) k = eqb j k
-is_at NotInSet k = false
+abbrev is_at : Option ℕ → ℕ → Bool
+is_at (Some j) k = eqb j k
+is_at None k = false
 
-is_at→eq : (p : Place) (k : ℕ) → T (is_at p k) → p ≡ At k
-is_at→eq (At j) k t = ap At (eqb→eq j k t)
-is_at→eq NotInSet k t = absurd t
+is_at→eq : (p : Option ℕ) (k : ℕ) → T (is_at p k) → p ≡ Some k
+is_at→eq (Some j) k t = ap Some (eqb→eq j k t)
+is_at→eq None k t = absurd t
 
 abbrev found : LetterSet → ℕ → Bool
 found set k = is_at (place_of set (letter_at set k)) k
@@ -67,13 +66,13 @@ all_found : T (all 13 (λ n. all (size_of (set_at n)) (found (set_at n))))
 unfolding place_of letter_at place_from
 all_found = tt
 
-pub letter_found : (set : LetterSet) (k : ℕ) → k < size_of set → place_of set (letter_at set k) ≡ At k
+pub letter_found : (set : LetterSet) (k : ℕ) → k < size_of set → place_of set (letter_at set k) ≡ Some k
 letter_found set k h =
     is_at→eq (place_of set (letter_at set k)) k
     (each (size_of set) (found set) (for_all (λ set. all (size_of set) (found set)) all_found set) k h)
 
 -- in one: a letter is found at a place exactly if that place is one of the set and holds it
-pub placed_exactly : (set : LetterSet) (b k : ℕ) → (place_of set b ≡ At k) ↔ ((k < size_of set) × (letter_at set k ≡ b))
+pub placed_exactly : (set : LetterSet) (b k : ℕ) → (place_of set b ≡ Some k) ↔ ((k < size_of set) × (letter_at set k ≡ b))
 placed_exactly set b k =
     (λ e. (place_below set b k e, place_holds set b k e), λ h. ap (place_of set) (sym h.1) ∙ letter_found set k h.0)
 
@@ -94,7 +93,7 @@ past_end set k h = get_or-eq_default (letters_of set) 0 (le_trans (size_le set) 
 abbrev pub is_capital : ℕ → Bool
 is_capital x = leb 65 x && leb x 90
 
-pub not_in : (i : ℕ) (xs : List ℕ) (b : ℕ) → T (every is_capital xs) → ((65 ≤ b → b ≤ 90 → ⊥)) → place_from i xs b ≡ NotInSet
+pub not_in : (i : ℕ) (xs : List ℕ) (b : ℕ) → T (every is_capital xs) → ((65 ≤ b → b ≤ 90 → ⊥)) → place_from i xs b ≡ None
 unfolding place_from
 not_in i [] b t h = refl
 not_in i (x ∷ xs) b t h =
@@ -103,6 +102,6 @@ not_in i (x ∷ xs) b t h =
     let q = leb→le x 90 k.1 in
     rw (ne_eqb x b (λ e. h (omega arith) (omega arith))) (not_in (suc i) xs b (every_tail is_capital x xs t) h)
 
-pub no_capital : (set : LetterSet) (b : ℕ) → (65 ≤ b → b ≤ 90 → ⊥) → place_of set b ≡ NotInSet
+pub no_capital : (set : LetterSet) (b : ℕ) → (65 ≤ b → b ≤ 90 → ⊥) → place_of set b ≡ None
 unfolding place_of
 no_capital set b h = not_in 0 (letters_of set) b (for_all (λ set. every is_capital (letters_of set)) tt set) h

@@ -1,15 +1,14 @@
 -- Guesses, and sets that are parts of a table: the law of all sets serves them. Assumes nothing.
-use mathlib.Core.Path.{◌≡◌, sym, ◌∙◌}
+use mathlib.Core.Path.{◌≡◌, refl}
 use mathlib.Core.List.{List}
-use Prim.Native.Nat.{ℕ, ◌+◌, ◌-◌, ◌≤◌, ◌<◌}
+use Prim.Native.Nat.{ℕ, ◌+◌, ◌-◌, ◌≤◌}
 use lib.Dec.{T}
 use lib.ListN.{take, drop}
 use Rattle.letters.specs.Letters.{LetterSet, letters_of, place_of, first_tile, tile_in}
-use Rattle.letters.specs.declared.Place.TheVariants.{At, NotInSet}
 use Rattle.letters.specs.declared.Stretch.{Stretch}
 use Rattle.letters.specs.Search.{confirm, behind_of, skipped_of, skipped_in_columns, skipped_in_bands}
 use Rattle.letters.proofs.Confirm.{right, confirmed_is}
-use Rattle.letters.proofs.Places.{tile_lt}
+use Rattle.std.specs.Prelude.{Option, Some, None, option_map}
 
 -- among all letters but I and O, among the UPS columns, among the UPS bands
 abbrev pub guess : ℕ → ℕ → ℕ
@@ -38,13 +37,10 @@ pub in_stretch : (table : List ℕ) (g : ℕ → ℕ → ℕ) (set : LetterSet) 
 in_stretch table g set s b i = rw i.letters (confirmed_is set (g s.first) i.guessed b)
 
 -- and its tile is counted from the stretch's, which is the set's first
-pub tile_at_lem : (table : List ℕ) (g : ℕ → ℕ → ℕ) (set : LetterSet) (s : Stretch) (b k : ℕ) → Is table g set s → confirm (letters_from table s) (g s.first b) b ≡ At k → At (s.tile + k) ≡ tile_in set b
+tiled : (set : LetterSet) (t b : ℕ) (p : Option ℕ) → t ≡ first_tile set → place_of set b ≡ p → option_map (λ k. t + k) p ≡ tile_in set b
 unfolding tile_in
-tile_at_lem table g set s b k i e = rw (sym (in_stretch table g set s b i) ∙ e, i.tile)
+tiled set t b None e f = rw f
+tiled set t b (Some k) e f = rw (f, e)
 
-pub tile_none : (table : List ℕ) (g : ℕ → ℕ → ℕ) (set : LetterSet) (s : Stretch) (b : ℕ) → Is table g set s → confirm (letters_from table s) (g s.first b) b ≡ NotInSet → NotInSet ≡ tile_in set b
-unfolding tile_in
-tile_none table g set s b i e = rw (sym (in_stretch table g set s b i) ∙ e)
-
-pub tile_small : (table : List ℕ) (g : ℕ → ℕ → ℕ) (set : LetterSet) (s : Stretch) (b k : ℕ) → Is table g set s → confirm (letters_from table s) (g s.first b) b ≡ At k → s.tile + k < 44
-tile_small table g set s b k i e = tile_lt set b (s.tile + k) (sym (tile_at_lem table g set s b k i e))
+pub in_tiles : (table : List ℕ) (g : ℕ → ℕ → ℕ) (set : LetterSet) (s : Stretch) (b : ℕ) → Is table g set s → option_map (λ k. s.tile + k) (confirm (letters_from table s) (g s.first b) b) ≡ tile_in set b
+in_tiles table g set s b i = rw (in_stretch table g set s b i) (tiled set s.tile b (place_of set b) i.tile refl)

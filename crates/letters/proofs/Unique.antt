@@ -20,6 +20,8 @@ use Rattle.letters.specs.contracts.behind as behind
 use Rattle.letters.proofs.behind.Reads as behind_reads
 use Rattle.letters.specs.contracts.confirmed as confirmed
 use Rattle.letters.proofs.confirmed.Reads as confirmed_reads
+use Rattle.letters.specs.contracts.tile_of as tile_of
+use Rattle.letters.proofs.tile_of.Reads as tile_of_reads
 use Rattle.letters.specs.contracts.letter_at as letter_at
 use Rattle.letters.proofs.letter_at.Reads as letter_at_reads
 
@@ -49,3 +51,6 @@ confirmed_unique κs a r r' s s' p q = p ∙ sym q
 
 pub letter_at_unique : (κs : Lfts 1) (a : ArgsD letter_at.signature κs) (r r' : ResD letter_at.signature κs) (s s' : AtExit letter_at.ended κs) → letter_at_reads.Post κs a r s → letter_at_reads.Post κs a r' s' → r ≡ r'
 letter_at_unique κs a r r' s s' p q = p ∙ sym q
+
+pub tile_of_unique : (κs : Lfts 1) (a : ArgsD tile_of.signature κs) (r r' : ResD tile_of.signature κs) (s s' : AtExit tile_of.ended κs) → tile_of_reads.Post κs a r s → tile_of_reads.Post κs a r' s' → r ≡ r'
+tile_of_unique κs a r r' s s' p q = p ∙ sym q

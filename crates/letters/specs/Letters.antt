@@ -1,9 +1,7 @@
 -- The letters of document 01, "Letters (source document 000)". Assumes nothing.
-use Rattle.std.specs.Prelude.{Bool, true, false, cond, List, [], ◌∷◌, ℕ, suc, ◌+◌, ◌-◌, eqb, leb, ltb, get_or}
+use Rattle.std.specs.Prelude.{Bool, true, cond, List, [], ◌∷◌, ℕ, suc, ◌+◌, ◌-◌, eqb, leb, ltb, get_or, Option, Some, None, is_some}
 use Prim.Native.Char.{code}
 use Rattle.whole.specs.Text.{bytes}
-use Rattle.letters.specs.declared.Place.{Place}
-use Rattle.letters.specs.declared.Place.TheVariants.{At, NotInSet}
 
 -- "a-z count as A-Z": a capital stands 32 below its small letter.
 unfoldable pub capital_of : ℕ → ℕ
@@ -42,22 +40,22 @@ letters_of UpsRowsSouth = bytes "ABCDEFGHJKLMNPQRSTUVWXYZ"
 letters_of UpsRowsNorth = bytes "ABCDEFGHJKLMNP"
 
 -- The first place of a letter in a list, counted from i.
-unfoldable pub place_from : ℕ → List ℕ → ℕ → Place
-place_from i [] b = NotInSet
-place_from i (x ∷ xs) b = cond (eqb x b) (At i) (place_from (suc i) xs b)
+unfoldable pub place_from : ℕ → List ℕ → ℕ → Option ℕ
+place_from i [] b = None
+place_from i (x ∷ xs) b = cond (eqb x b) (Some i) (place_from (suc i) xs b)
 
 -- Where a capital stands in a set, counted from 0.
-unfoldable pub place_of : LetterSet → ℕ → Place
+unfoldable pub place_of : LetterSet → ℕ → Option ℕ
 place_of set b = place_from 0 (letters_of set) b
 
 -- What is answered where a letter is "not in its set", or by its place.
-abbrev pub by_place : {A : Type 0} → Place → A → (ℕ → A) → A
-by_place NotInSet none at = none
-by_place (At k) none at = at k
+abbrev pub by_place : {A : Type 0} → Option ℕ → A → (ℕ → A) → A
+by_place None none at = none
+by_place (Some k) none at = at k
 
 -- Whether a letter is in a set.
 unfoldable pub is_in : LetterSet → ℕ → Bool
-is_in set b = by_place (place_of set b) false (λ k. true)
+is_in set b = is_some (place_of set b)
 
 -- The letter at a place, 0 past the set's end.
 unfoldable pub letter_at : LetterSet → ℕ → ℕ
@@ -81,8 +79,8 @@ first_tile UpsRowsSouth = 8
 first_tile UpsRowsNorth = 13
 
 -- The tile of a letter, as a place: counted from its set's first tile on.
-unfoldable pub tile_in : LetterSet → ℕ → Place
-tile_in set b = by_place (place_of set b) NotInSet (λ k. At (first_tile set + k))
+unfoldable pub tile_in : LetterSet → ℕ → Option ℕ
+tile_in set b = by_place (place_of set b) None (λ k. Some (first_tile set + k))
 
 -- "north from N"; "A, B south; Y, Z north": the letters from N.
 abbrev pub north_band : ℕ → Bool

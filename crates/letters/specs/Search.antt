@@ -1,13 +1,11 @@
 -- How a letter is looked up in a set: its place is guessed by a sum, and the set is asked whether the letter stands there. That
 -- this gives the places of `Letters` is proved by the crates with the tables, which alone ask so. Assumes nothing.
-use Rattle.std.specs.Prelude.{cond, List, ℕ, ◌+◌, ◌-◌, ◌%◌, eqb, leb, ltb, length, get_or}
+use Rattle.std.specs.Prelude.{cond, List, ℕ, ◌+◌, ◌-◌, ◌%◌, eqb, leb, ltb, length, get_or, Option, Some, None}
 use Prim.Native.Char.{code}
-use Rattle.letters.specs.declared.Place.{Place}
-use Rattle.letters.specs.declared.Place.TheVariants.{At, NotInSet}
 
 -- A guessed place, if the letter stands there.
-unfoldable pub confirm : List ℕ → ℕ → ℕ → Place
-confirm set k b = cond (leb (length set) k) NotInSet (cond (eqb (get_or set k 0) b) (At k) NotInSet)
+unfoldable pub confirm : List ℕ → ℕ → ℕ → Option ℕ
+confirm set k b = cond (leb (length set) k) None (cond (eqb (get_or set k 0) b) (Some k) None)
 
 -- How far behind A, the letters left out and those before a set's first.
 unfoldable pub behind_of : ℕ → ℕ → ℕ → ℕ

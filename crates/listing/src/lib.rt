@@ -1,8 +1,7 @@
 // One line of the listing: a text as it was read, under its line number.
 #![tactic(auto)]
 
-ghost use Rattle.std.specs.Prelude.{◌≡◌, [], ◌∷◌, ◌++◌, ◌+◌, ◌/◌, ◌%◌, ◌<◌, ◌≤◌, length, drop};
-ghost use Rattle.std.proofs.lemmas.List.Edits.{sets};
+ghost use Rattle.std.specs.Prelude.{◌≡◌, [], ◌∷◌, ◌++◌, ◌<◌, ◌≤◌, length};
 ghost use Rattle.runs.specs.Runs.{last_digits};
 ghost use Rattle.listing.specs.Numerals.{decimal, signed};
 ghost use Rattle.reader.specs.Read.{read_of};
@@ -10,8 +9,9 @@ ghost use Rattle.listing.specs.Listing.{side_letter, field, letter, read_by, ans
 ghost use Rattle.writer.specs.Write.{fit_of, leaves_of};
 
 use position::Position;
-use reader::Answer;
-use writer::Written;
+use reader::Reading;
+use rules::Refusal;
+use std::marker::Model;
 
 // What the text of a line is written in, which tells how it is read.
 #[derive(Clone, Copy)]
@@ -19,193 +19,204 @@ pub enum Form {
     Plain,
 }
 
-// A line is made from its end to its start, so that no number has to be counted before it is written; `at` is where its
-// text begins so far. 128 bytes hold the longest: five numbers of 20 bytes, two letters, six blanks and the line feed.
-
-// One byte more in front.
-fn put(line: &mut [u8], at: usize, b: u8) -> usize
-    requires { (0 < at) × (at ≤ length line.old) }
-    ensures { (result + 1 ≡ at) × (drop result line.new ≡ b ∷ drop at line.old) }
-{
-    let to = at - 1;
-    line[to] = b;
-    to
+// A line is made from its end to its start, so that no number has to be counted before it is written: bytes[at..] is its text
+// so far. 128 bytes hold the longest, five numbers of 20 bytes, two letters, six blanks and the line feed, and eight bytes more,
+// which a number's first digits may take before it is known how many they are. Kept by hand are the digits: Display, or itoa of
+// the library, would write them elsewhere first, which is a copy more.
+#[derive(Drop)]
+struct Line {
+    bytes: [u8; 128],
+    at: usize,
 }
 
-// Four bytes of a number from a place on, the lowest first. The compiler makes one store of it.
-fn put_four(line: &mut [u8], at: usize, w: u64)
-    requires { at + 4 ≤ length line.old }
-    ensures { line.new ≡ sets line.old at (w % 256 ∷ w / 256 % 256 ∷ w / 256 / 256 % 256 ∷ w / 256 / 256 / 256 % 256 ∷ []) }
-{
-    line[at] = (w % 256) as u8;
-    line[at + 1] = (w / 256 % 256) as u8;
-    line[at + 2] = (w / 256 / 256 % 256) as u8;
-    line[at + 3] = (w / 256 / 256 / 256 % 256) as u8;
+// A clause sees the text alone. Kept: each method asks for the room that it needs, or for an empty line; no invariant can, since the
+// text grows from call to call.
+impl Model for Line {
+    ghost use Rattle.std.specs.Prelude.{List, ℕ, ◌≤◌, drop};
+
+    ghost Value = { List ℕ };
+
+    ghost view = { λ a. drop a.at a.bytes };
+
+    ghost invariant = { λ a. a.at ≤ 128 };
 }
 
-// The last eight digits of a number from a place on.
-fn put_eight(line: &mut [u8], at: usize, n: u64)
-    requires { at + 8 ≤ length line.old }
-    ensures { line.new ≡ sets line.old at (last_digits 8 n) }
-{
-    let w = spelling::spelled(n);
-    put_four(line, at, w);
-    put_four(line, at + 4, w / 0x100000000);
-}
-
-// A number in front, by its last two digits first.
-fn put_short(line: &mut [u8], at: usize, n: u64) -> usize
-    requires { (20 ≤ at) × (at ≤ length line.old) }
-    ensures { (at ≤ result + 20) × (result ≤ at) × (drop result line.new ≡ decimal n ++ drop at line.old) }
-{
-    let mut to = at;
-    let mut rest = n;
-    while 100 <= rest {
-        let two = rest % 100;
-        let last = put(line, to, b'0' + (two % 10) as u8);
-        to = put(line, last, b'0' + (two / 10) as u8);
-        rest = rest / 100;
+#[tactic(auto, using(crate::proofs::Fit::text_rules), unfolding(crate::specs::Listing::zone_text, crate::specs::Listing::units_text, crate::specs::Listing::refusal_text))]
+impl Line {
+    fn new() -> Line
+        ensures { result ≡ [] }
+    {
+        Line {
+            bytes: [0; 128],
+            at: 128,
+        }
     }
-    if 10 <= rest {
-        let last = put(line, to, b'0' + (rest % 10) as u8);
-        return put(line, last, b'0' + (rest / 10) as u8);
+
+    fn text(&self) -> &[u8]
+        ensures { result.now ≡ self.now }
+    {
+        &self.bytes[self.at..]
     }
-    put(line, to, b'0' + rest as u8)
-}
 
-// The same; of nine to sixteen digits the last eight in one step. Eight bytes more in front than are used spare a case.
-fn put_number(line: &mut [u8], at: usize, n: u64) -> usize
-    requires { (28 ≤ at) × (at ≤ length line.old) }
-    ensures { (at ≤ result + 20) × (result ≤ at) × (drop result line.new ≡ decimal n ++ drop at line.old) }
-{
-    if n < 100_000_000 {
-        return put_short(line, at, n);
+    // One byte more in front.
+    fn put(&mut self, b: u8)
+        requires { length self.old < 128 }
+        ensures { self.new ≡ b ∷ self.old }
+    {
+        self.at -= 1;
+        self.bytes[self.at] = b;
     }
-    if 10_000_000_000_000_000 <= n {
-        return put_short(line, at, n);
+
+    // The last eight digits of a number in front, in one step.
+    fn put_eight(&mut self, n: u64)
+        requires { length self.old ≤ 120 }
+        ensures { self.new ≡ last_digits 8 n ++ self.old }
+    {
+        let end = self.at;
+        self.at -= 8;
+        self.bytes[self.at..end].copy_from_slice(&spelling::spelled(n).to_le_bytes());
     }
-    let to = at - 8;
-    put_eight(line, to, n);
-    put_short(line, to, n / 100_000_000)
-}
 
-// A blank and a signed number in front.
-fn put_field(line: &mut [u8], at: usize, z: i64) -> usize
-    requires { (30 ≤ at) × (at ≤ length line.old) }
-    ensures { (at ≤ result + 22) × (result ≤ at) × (drop result line.new ≡ field (signed z) ++ drop at line.old) }
-{
-    if z < 0 {
-        let a = put_number(line, at, whole::fold_of(z) + 1);
-        let b = put(line, a, b'-');
-        return put(line, b, b' ');
+    // A number of at most eight digits in front: all eight, and then the zeros before it are let go. One or two, as a zone has,
+    // take less by themselves.
+    fn put_short(&mut self, n: u64)
+        requires { (n < 100000000) × (length self.old ≤ 120) }
+        ensures { self.new ≡ decimal n ++ self.old }
+    {
+        if n < 10 {
+            self.put(b'0' + n as u8);
+        } else if n < 100 {
+            self.put(b'0' + (n % 10) as u8);
+            self.put(b'0' + (n / 10) as u8);
+        } else {
+            self.put_eight(n);
+            self.at += 7 - n.ilog10() as usize;
+        }
     }
-    let a = put_number(line, at, whole::fold_of(z));
-    put(line, a, b' ')
-}
 
-// A blank and a letter in front.
-fn put_letter(line: &mut [u8], at: usize, b: u8) -> usize
-    requires { (2 ≤ at) × (at ≤ length line.old) }
-    ensures { (result + 2 ≡ at) × (drop result line.new ≡ letter b ++ drop at line.old) }
-{
-    let a = put(line, at, b);
-    put(line, a, b' ')
-}
-
-fn side_of(north: bool) -> u8
-    ensures { result ≡ side_letter north }
-{
-    if north {
-        return b'N';
+    // A number in front, eight digits at a time.
+    fn put_number(&mut self, n: u64)
+        requires { length self.old ≤ 100 }
+        ensures { self.new ≡ decimal n ++ self.old }
+    {
+        let mut rest = n;
+        while 100_000_000 <= rest {
+            self.put_eight(rest);
+            rest /= 100_000_000;
+        }
+        self.put_short(rest);
     }
-    b'S'
-}
 
-// The end of a position's line: p, the units and the line feed.
-fn put_units(line: &mut [u8], at: usize, q: Position) -> usize
-    requires { (75 ≤ at) × (at ≤ length line.old) }
-    ensures { (at ≤ result + 67) × (result ≤ at) × (drop result line.new ≡ units_text q ++ drop at line.old) }
-{
-    let a = put(line, at, b'\n');
-    let b = put_field(line, a, q.northing);
-    let c = put_field(line, b, q.easting);
-    put_field(line, c, q.p)
-}
+    // A blank and a signed number in front.
+    fn put_field(&mut self, z: i64)
+        requires { length self.old ≤ 100 }
+        ensures { self.new ≡ field (signed z) ++ self.old }
+    {
+        self.put_number(z.unsigned_abs());
+        if z < 0 {
+            self.put(b'-');
+        }
+        self.put(b' ');
+    }
 
-// Its start: the number, the zone, the hemisphere and the band.
-fn put_zone(line: &mut [u8], at: usize, number: u64, q: Position) -> usize
-    requires { (54 ≤ at) × (at ≤ length line.old) }
-    ensures { (result ≤ at) × (drop result line.new ≡ zone_text number q ++ drop at line.old) }
-{
-    let a = put_letter(line, at, q.band);
-    let b = put_letter(line, a, side_of(q.north));
-    let c = put_field(line, b, q.zone);
-    put_number(line, c, number)
-}
+    // A blank and a letter in front.
+    fn put_letter(&mut self, b: u8)
+        requires { length self.old ≤ 120 }
+        ensures { self.new ≡ letter b ++ self.old }
+    {
+        self.put(b);
+        self.put(b' ');
+    }
 
-// The line of a position; the answer is where it begins.
-fn put_position(line: &mut [u8], number: u64, q: Position) -> usize
-    requires { length line.old ≡ 128 }
-    ensures { (result ≤ 128) × (drop result line.new ≡ zone_text number q ++ units_text q) }
-{
-    let a = put_units(line, 128, q);
-    put_zone(line, a, number, q)
-}
+    // The end of a position's line: p, the units and the line feed.
+    fn put_units(&mut self, q: Position)
+        requires { self.old ≡ [] }
+        ensures { self.new ≡ units_text q }
+    {
+        self.put(b'\n');
+        self.put_field(q.northing);
+        self.put_field(q.easting);
+        self.put_field(q.p);
+    }
 
-// The line of a refusal.
-fn put_refusal(line: &mut [u8], number: u64, k: u64) -> usize
-    requires { length line.old ≡ 128 }
-    ensures { (result ≤ 128) × (drop result line.new ≡ refusal_text number k) }
-{
-    let a = put(line, 128, b'\n');
-    let b = put_number(line, a, k);
-    let c = put(line, b, b' ');
-    let d = put_letter(line, c, b'R');
-    put_number(line, d, number)
-}
+    // Its start: the number, the zone, the hemisphere and the band.
+    fn put_zone(&mut self, number: u64, q: Position)
+        requires { length self.old ≤ 74 }
+        ensures { self.new ≡ zone_text number q ++ self.old }
+    {
+        self.put_letter(q.band);
+        self.put_letter(if q.north { b'N' } else { b'S' });
+        self.put_field(q.zone);
+        self.put_number(number);
+    }
 
-// The line of an answer.
-fn put_answer(line: &mut [u8], number: u64, answer: Answer) -> usize
-    requires { length line.old ≡ 128 }
-    ensures { (result ≤ 128) × (drop result line.new ≡ text_of number answer) }
-{
-    match answer {
-        Answer::Square(q) => put_position(line, number, q),
-        Answer::Bare(q) => put_position(line, number, q),
-        Answer::Refused(k) => put_refusal(line, number, k),
+    // The line of a position.
+    fn put_position(&mut self, number: u64, q: Position)
+        requires { self.old ≡ [] }
+        ensures { self.new ≡ zone_text number q ++ units_text q }
+    {
+        self.put_units(q);
+        self.put_zone(number, q);
+    }
+
+    // The line of a refusal.
+    fn put_refusal(&mut self, number: u64, k: u64)
+        requires { self.old ≡ [] }
+        ensures { self.new ≡ refusal_text number k }
+    {
+        self.put(b'\n');
+        self.put_number(k);
+        self.put(b' ');
+        self.put_letter(b'R');
+        self.put_number(number);
+    }
+
+    // The line of an answer.
+    fn put_answer(&mut self, number: u64, answer: Result<Reading<Position>, Refusal>)
+        requires { self.old ≡ [] }
+        ensures { self.new ≡ text_of number answer }
+    {
+        match answer {
+            Ok(Reading::Square(q)) => self.put_position(number, q),
+            Ok(Reading::Bare(q)) => self.put_position(number, q),
+            Err(refusal) => self.put_refusal(number, u64::from(refusal.number())),
+        }
     }
 }
 
 // A line over 64 bytes is not read.
 #[tactic(auto, unfolding(crate::specs::Listing::answer_of, crate::specs::Listing::read_by))]
-fn answer_of(form: Form, text: &[u8]) -> Answer
+fn answer_of(form: Form, text: &[u8]) -> Result<Reading<Position>, Refusal>
     ensures { result ≡ answer_of (read_by form) text.now }
 {
     if 64 < text.len() {
-        return Answer::Refused(23);
+        return Err(Refusal::LongLine);
     }
     match form {
         Form::Plain => reader::read(text),
     }
 }
 
-// Puts the line of a plain text, under its number, at the buffer's start: its length, or 20 where it does not fit.
-pub fn list_line(text: &[u8], number: u64, out: &mut [u8]) -> Written
+// Puts the line of a plain text, under its number, at the buffer's start: its length, or `ShortOutput` where it does not fit.
+#[tactic(auto, unfolding(crate::specs::Listing::read_by))]
+pub fn list_line(text: &[u8], number: u64, out: &mut [u8]) -> Result<usize, Refusal>
     ensures { (result ≡ fit_of (line_of read_of number text.now) (length out.old)) × (out.new ≡ leaves_of (line_of read_of number text.now) out.old) }
 {
     list_line_by(Form::Plain, text, number, out)
 }
 
 // The same of a text of any form.
-pub fn list_line_by(form: Form, text: &[u8], number: u64, out: &mut [u8]) -> Written
+#[tactic(auto, using(crate::proofs::Fit::copy_rules), unfolding(crate::specs::Listing::line_of))]
+pub fn list_line_by(form: Form, text: &[u8], number: u64, out: &mut [u8]) -> Result<usize, Refusal>
     ensures { (result ≡ fit_of (line_of (read_by form) number text.now) (length out.old)) × (out.new ≡ leaves_of (line_of (read_by form) number text.now) out.old) }
 {
-    let mut line = [0u8; 128];
-    let at = put_answer(&mut line, number, answer_of(form, text));
-    let n = 128 - at;
+    let mut line = Line::new();
+    line.put_answer(number, answer_of(form, text));
+    let made = line.text();
+    let n = made.len();
     if out.len() < n {
-        return Written::Refused(20);
+        return Err(Refusal::ShortOutput);
     }
-    out[..n].copy_from_slice(&line[at..]);
-    Written::Length(n)
+    out[..n].copy_from_slice(made);
+    Ok(n)
 }

@@ -14,37 +14,27 @@ use Rattle.whole.proofs.Parts.{up, dn, clash, lt_no, le_no, add_parts, sub_parts
 use Rattle.whole.proofs.Floor.{div_pos, up_floor, dn_floor}
 use Rattle.whole.proofs.Signed.{is_count}
 use Rattle.whole.proofs.Small.{at_least, at_most}
-use Rattle.rows.specs.declared.RowAnswer.{RowAnswer}
-use Rattle.rows.specs.declared.RowAnswer.TheVariants.{Row, Nothing}
 use Rattle.rows.specs.Resolve.{resolve}
 use Rattle.rows.proofs.Theorems.{in_rows, answered}
-use Rattle.zones.specs.declared.ZoneAnswer.{ZoneAnswer}
-use Rattle.zones.specs.declared.ZoneAnswer.TheVariants.{Zone, Refused as NoZone}
 use Rattle.zones.specs.Zones.{degrees, band_at, band_of, turned, plain, norway, arctic, svalbard, zone_at, zone_of}
-use Rattle.ranges.specs.declared.MgrsCheck.{MgrsCheck}
-use Rattle.ranges.specs.declared.MgrsCheck.TheVariants.{Moved, Refused as OutOfMgrs}
-use Rattle.ranges.specs.declared.UtmCheck.{UtmCheck}
-use Rattle.ranges.specs.declared.UtmCheck.TheVariants.{InRange, Refused as OutOfUtm}
 use Rattle.ranges.specs.Ranges.{utm_check}
 use Rattle.ranges.specs.Edges.{mgrs_check}
-use Rattle.reader.specs.declared.Answer.{Answer}
-use Rattle.reader.specs.declared.Answer.TheVariants.{Square, Bare, Refused as NotRead}
-use Rattle.reader.specs.declared.MetresRead.{MetresRead}
-use Rattle.reader.specs.declared.MetresRead.TheVariants.{SquareMetres, BareMetres, Refused as NoMetres}
 use Rattle.reader.specs.Read.{read_of}
 use Rattle.reader.specs.Metres.{metres_read}
-use Rattle.writer.specs.declared.Written.{Written}
-use Rattle.writer.specs.declared.Written.TheVariants.{Length, Refused as NotWritten}
 use Rattle.writer.specs.Write.{write_of}
-use Rattle.squares.specs.declared.Covering.{Covering}
-use Rattle.squares.specs.declared.Covering.TheVariants.{Covers, DoesNot, Refused as NotCompared}
 use Rattle.squares.specs.Shorten.{short_of}
 use Rattle.squares.specs.Covers.{covers_of}
-use Rattle.numbers.specs.Numbers.{minus, read_number, metres_number, length_number, covers_number, mgrs_number, utm_number, zone_number, row_number}
-use Rattle.numbers.specs.Refused.{read_refused, metres_refused, write_refused, covers_refused, mgrs_refused, utm_refused, zone_refused}
-use Rattle.refusals.proofs.Refusals.{either, reading, ranging, writing, shortening, from_1, read_refusals, metres_refusals, utm_refusals, mgrs_refusals, write_refusals, short_refusals, covers_refusals, zone_refusals}
+use Rattle.numbers.specs.Numbers.{minus, answer_number, kind_number, read_number, metres_number, length_number, covers_number, mgrs_number, utm_number, zone_number, row_number}
+use Rattle.refusals.proofs.Refusals.{either}
+use Rattle.std.specs.Prelude.{Option, Some, None, Result, Ok, Err, is_err}
+use Rattle.rules.specs.Rules.{number_of}
+use Rattle.rules.specs.declared.Refusal.TheVariants.{LatitudeOut}
+use Rattle.rules.proofs.Tags.{positive}
+use Rattle.rules.specs.declared.Refusal.{Refusal}
+use Rattle.reader.specs.declared.Reading.{Reading}
+use Rattle.reader.specs.declared.Reading.TheVariants.{Square, Bare}
 
--- minus a number from 1 up is below 0, a count is not
+-- minus a rule's number is below 0, a count is not
 below : (n : ℕ) → 1 ≤ n → lt_z (minus n) (pos 0) ≡ true
 unfolding minus
 below zero h = absurd (omega arith)
@@ -53,62 +43,47 @@ below (suc n) h = refl
 not_below : (n : ℕ) → lt_z (pos n) (pos 0) ≡ false
 not_below n = le-ltb n 0 (omega arith)
 
+-- one law for every call: what is no refusal is not below 0, so what is below 0 is one
+sign : {A : Type 0} (of : A → ℤ) (a : Result A Refusal) → ((x : A) → a ≡ Ok x → lt_z (of x) (pos 0) ≡ false) → lt_z (answer_number of a) (pos 0) ≡ is_err a
+sign of (Ok x) h = h x refl
+sign of (Err r) h = below (number_of r) (positive r)
+
 -- ---- reading
 
-read_by_lem : (s : List ℕ) (a : Answer) → read_of s ≡ a → lt_z (read_number a) (pos 0) ≡ read_refused a
-read_by_lem s (Square q) e = refl
-read_by_lem s (Bare q) e = refl
-read_by_lem s (NotRead n) e = below n (from_1 reading n tt (read_refusals n s e))
+kind_sign : {A : Type 0} (x : Reading A) → lt_z (kind_number x) (pos 0) ≡ false
+kind_sign (Square q) = refl
+kind_sign (Bare q) = refl
 
-pub read_sign : (s : List ℕ) → lt_z (read_number (read_of s)) (pos 0) ≡ read_refused (read_of s)
-read_sign s = read_by_lem s (read_of s) refl
+pub read_sign : (s : List ℕ) → lt_z (read_number (read_of s)) (pos 0) ≡ is_err (read_of s)
+read_sign s = sign kind_number (read_of s) (λ x e. kind_sign x)
 
-metres_by : (s : List ℕ) (a : MetresRead) → metres_read s ≡ a → lt_z (metres_number a) (pos 0) ≡ metres_refused a
-metres_by s (SquareMetres m) e = refl
-metres_by s (BareMetres m) e = refl
-metres_by s (NoMetres n) e = below n (from_1 reading n tt (metres_refusals n s e))
-
-pub read_metres_sign : (s : List ℕ) → lt_z (metres_number (metres_read s)) (pos 0) ≡ metres_refused (metres_read s)
-read_metres_sign s = metres_by s (metres_read s) refl
+pub read_metres_sign : (s : List ℕ) → lt_z (metres_number (metres_read s)) (pos 0) ≡ is_err (metres_read s)
+read_metres_sign s = sign kind_number (metres_read s) (λ x e. kind_sign x)
 
 -- ---- writing and shortening
 
-length_by : (a : Written) → ((n : ℕ) → a ≡ NotWritten n → 1 ≤ n) → lt_z (length_number a) (pos 0) ≡ write_refused a
-length_by (Length n) h = not_below n
-length_by (NotWritten n) h = below n (h n refl)
-
 pub write_sign : (zone : ℤ) (north : Bool) (band : ℕ) (p e n : ℤ) (m : ℕ)
-    → lt_z (length_number (write_of zone north band p e n m)) (pos 0) ≡ write_refused (write_of zone north band p e n m)
-write_sign zone north band p e n m =
-    length_by (write_of zone north band p e n m) (λ k x. from_1 writing k tt (write_refusals k zone north band p e n m x))
+    → lt_z (length_number (write_of zone north band p e n m)) (pos 0) ≡ is_err (write_of zone north band p e n m)
+write_sign zone north band p e n m = sign pos (write_of zone north band p e n m) (λ k x. not_below k)
 
-pub shorten_sign : (s : List ℕ) (q : ℤ) (m : ℕ) → lt_z (length_number (short_of s q m)) (pos 0) ≡ write_refused (short_of s q m)
-shorten_sign s q m = length_by (short_of s q m) (λ k x. from_1 shortening k tt (short_refusals s q m k x))
+pub shorten_sign : (s : List ℕ) (q : ℤ) (m : ℕ) → lt_z (length_number (short_of s q m)) (pos 0) ≡ is_err (short_of s q m)
+shorten_sign s q m = sign pos (short_of s q m) (λ k x. not_below k)
 
 -- ---- covering and the range tests
 
-covers_by : (s t : List ℕ) (a : Covering) → covers_of s t ≡ a → lt_z (covers_number a) (pos 0) ≡ covers_refused a
-covers_by s t Covers e = refl
-covers_by s t DoesNot e = refl
-covers_by s t (NotCompared n) e = below n (from_1 reading n tt (covers_refusals s t n e))
+yes_sign : (t : Bool) → lt_z (cond t (pos 1) (pos 0)) (pos 0) ≡ false
+yes_sign true = refl
+yes_sign false = refl
 
-pub covers_sign : (s t : List ℕ) → lt_z (covers_number (covers_of s t)) (pos 0) ≡ covers_refused (covers_of s t)
-covers_sign s t = covers_by s t (covers_of s t) refl
+pub covers_sign : (s t : List ℕ) → lt_z (covers_number (covers_of s t)) (pos 0) ≡ is_err (covers_of s t)
+covers_sign s t = sign _ (covers_of s t) (λ x e. yes_sign x)
 
 module _ (zone : ℤ) (north : Bool) (e n : ℤ) where
-  mgrs_by : (a : MgrsCheck) → mgrs_check zone north e n ≡ a → lt_z (mgrs_number a) (pos 0) ≡ mgrs_refused a
-  mgrs_by (Moved point) x = refl
-  mgrs_by (OutOfMgrs k) x = below k (from_1 ranging k tt (mgrs_refusals k zone north e n x))
+  pub mgrs_check_sign : lt_z (mgrs_number (mgrs_check zone north e n)) (pos 0) ≡ is_err (mgrs_check zone north e n)
+  mgrs_check_sign = sign _ (mgrs_check zone north e n) (λ x e. refl)
 
-  pub mgrs_check_sign : lt_z (mgrs_number (mgrs_check zone north e n)) (pos 0) ≡ mgrs_refused (mgrs_check zone north e n)
-  mgrs_check_sign = mgrs_by (mgrs_check zone north e n) refl
-
-  utm_by : (a : UtmCheck) → utm_check zone north e n ≡ a → lt_z (utm_number a) (pos 0) ≡ utm_refused a
-  utm_by InRange x = refl
-  utm_by (OutOfUtm k) x = below k (from_1 ranging k tt (utm_refusals k zone north e n x))
-
-  pub utm_check_sign : lt_z (utm_number (utm_check zone north e n)) (pos 0) ≡ utm_refused (utm_check zone north e n)
-  utm_check_sign = utm_by (utm_check zone north e n) refl
+  pub utm_check_sign : lt_z (utm_number (utm_check zone north e n)) (pos 0) ≡ is_err (utm_check zone north e n)
+  utm_check_sign = sign _ (utm_check zone north e n) (λ x e. refl)
 
 -- ---- the standard zone
 
@@ -150,29 +125,25 @@ module _ (d : ℤ) (h : dn d ≤ up d + 180) where
       by false false = plain_up
 
 module _ (latitude longitude : ℤ) where
-  in_zone : (z y : ℤ) → dn y ≤ up y → Zone y ≡ Zone z → dn z ≤ up z
+  in_zone : (z y : ℤ) → dn y ≤ up y → ◌≡◌ {A = Result ℤ Refusal} (Ok y) (Ok z) → dn z ≤ up z
   in_zone z y h e = let f : y ≡ z = cc in rw (sym f) h
 
-  no_zone : (n : ℕ) (z : ℤ) → NoZone n ≡ Zone z → dn z ≤ up z
+  no_zone : (n : Refusal) (z : ℤ) → ◌≡◌ {A = Result ℤ Refusal} (Err n) (Ok z) → dn z ≤ up z
   no_zone n z e = clash (cc)
 
   -- what is answered is not below 0
-  zone_from : (z : ℤ) → zone_of latitude longitude ≡ Zone z → dn z ≤ up z
+  zone_from : (z : ℤ) → zone_of latitude longitude ≡ Ok z → dn z ≤ up z
   unfolding zone_of
   zone_from z e =
       let d = turned (degrees longitude) in
-      either (lt_z latitude (negsuc 89999999999)) _ _ _ e (no_zone 22 z)
-      (λ e. either (lt_z (pos 90000000000) latitude) _ _ _ e (no_zone 22 z)
+      either (lt_z latitude (negsuc 89999999999)) _ _ _ e (no_zone LatitudeOut z)
+      (λ e. either (lt_z (pos 90000000000) latitude) _ _ _ e (no_zone LatitudeOut z)
       (λ e. either (lt_z latitude (negsuc 79999999999)) _ _ _ e (in_zone z (pos 0) (count 0))
       (λ e. either (le_z (pos 84000000000) latitude) _ _ _ e (in_zone z (pos 0) (count 0))
       (in_zone z (zone_at (band_of latitude) d) (zone_up d (turned_from (degrees longitude)) (band_of latitude))))))
 
-  zone_by : (a : ZoneAnswer) → zone_of latitude longitude ≡ a → lt_z (zone_number a) (pos 0) ≡ zone_refused a
-  zone_by (Zone z) e = rw (is_count z (zone_from z e)) (not_below (up z))
-  zone_by (NoZone n) e = let f = zone_refusals n latitude longitude e in below n (omega arith)
-
-  pub standard_zone_sign : lt_z (zone_number (zone_of latitude longitude)) (pos 0) ≡ zone_refused (zone_of latitude longitude)
-  standard_zone_sign = zone_by (zone_of latitude longitude) refl
+  pub standard_zone_sign : lt_z (zone_number (zone_of latitude longitude)) (pos 0) ≡ is_err (zone_of latitude longitude)
+  standard_zone_sign = sign _ (zone_of latitude longitude) (λ z e. rw (is_count z (zone_from z e)) (not_below (up z)))
 
 -- ---- what is never refused: bands and rows
 
@@ -196,13 +167,13 @@ latitude_band_range latitude =
     band_by d (lt_z d (negsuc 71)) (le_z (pos 72) d) refl refl
 
 -- 100 is no row: it is answered exactly where there is none
-row_by : (b : ℤ) (c l : ℕ) (a : RowAnswer) → resolve 0 b c l ≡ a → row_number a ≡ pos 100 → a ≡ Nothing
+row_by : (b : ℤ) (c l : ℕ) (a : Option ℤ) → resolve 0 b c l ≡ a → row_number a ≡ pos 100 → a ≡ None
 unfolding up dn
-row_by b c l Nothing e x = refl
-row_by b c l (Row found) e x =
-    let r = (in_rows b c found.row (answered b c 0 l found e).0).1 in
-    let h = ≤ℤ-parts found.row (pos 94) r in
+row_by b c l None e x = refl
+row_by b c l (Some found) e x =
+    let r = (in_rows b c found (answered b c 0 l found e).0).1 in
+    let h = ≤ℤ-parts found (pos 94) r in
     absurd (omega (arith, ap up x, ap dn x))
 
-pub utm_row_none : (b : ℤ) (c l : ℕ) → (row_number (resolve 0 b c l) ≡ pos 100) ↔ (resolve 0 b c l ≡ Nothing)
+pub utm_row_none : (b : ℤ) (c l : ℕ) → (row_number (resolve 0 b c l) ≡ pos 100) ↔ (resolve 0 b c l ≡ None)
 utm_row_none b c l = (row_by b c l (resolve 0 b c l) refl, ap row_number)

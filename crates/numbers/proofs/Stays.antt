@@ -7,18 +7,18 @@ use Prim.Native.Nat.{ℕ}
 use lib.IntN.{ℤ, negsuc}
 use lib.ListN.{length}
 use Rattle.whole.proofs.Parts.{clash}
-use Rattle.writer.specs.declared.Written.{Written}
-use Rattle.writer.specs.declared.Written.TheVariants.{Length, Refused as NotWritten}
 use Rattle.writer.specs.Write.{write_of, write_leaves}
 use Rattle.writer.specs.Stays.{Stays}
 use Rattle.squares.specs.Shorten.{short_of, short_leaves}
 use Rattle.refusals.proofs.Stays.{write_stays, shorten_stays}
 use Rattle.numbers.specs.Numbers.{length_number}
+use Rattle.std.specs.Prelude.{Result, Ok, Err}
+use Rattle.rules.specs.declared.Refusal.{Refusal}
 
 -- a length is not below 0
-length_by : (a : Written) (l after : List ℕ) → Stays NotWritten a l after → Stays negsuc (length_number a) l after
-length_by (Length n) l after h = λ k x. clash (cc)
-length_by (NotWritten n) l after h = λ k x. h n refl
+length_by : (a : Result ℕ Refusal) (l after : List ℕ) → Stays Err a l after → Stays negsuc (length_number a) l after
+length_by (Ok n) l after h = λ k x. clash (cc)
+length_by (Err n) l after h = λ k x. h n refl
 
 pub mgrs_write_stays : (zone : ℤ) (north : Bool) (band : ℕ) (p e n : ℤ) (l : List ℕ)
     → Stays negsuc (length_number (write_of zone north band p e n (length l))) l (write_leaves zone north band p e n l)

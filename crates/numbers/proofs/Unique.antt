@@ -16,6 +16,8 @@ use Rattle.numbers.specs.contracts.utm_check_coords as utm_check_coords
 use Rattle.numbers.proofs.utm_check_coords.Reads as utm_check_coords_reads
 use Rattle.numbers.specs.contracts.standard_zone as standard_zone
 use Rattle.numbers.proofs.standard_zone.Reads as standard_zone_reads
+use Rattle.numbers.specs.contracts.number_of as number_of
+use Rattle.numbers.proofs.number_of.Reads as number_of_reads
 use Rattle.numbers.specs.contracts.utm_row as utm_row
 use Rattle.numbers.proofs.utm_row.Reads as utm_row_reads
 
@@ -39,3 +41,6 @@ standard_zone_unique κs a r r' s s' p q = p ∙ sym q
 
 pub utm_row_unique : (κs : Lfts 0) (a : ArgsD utm_row.signature κs) (r r' : ResD utm_row.signature κs) (s s' : AtExit utm_row.ended κs) → utm_row_reads.Post κs a r s → utm_row_reads.Post κs a r' s' → r ≡ r'
 utm_row_unique κs a r r' s s' p q = p ∙ sym q
+
+pub number_of_unique : (κs : Lfts 0) (a : ArgsD number_of.signature κs) (r r' : ResD number_of.signature κs) (s s' : AtExit number_of.ended κs) → number_of_reads.Post κs a r s → number_of_reads.Post κs a r' s' → r ≡ r'
+number_of_unique κs a r r' s s' p q = p ∙ sym q

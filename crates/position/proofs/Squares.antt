@@ -1,15 +1,17 @@
 -- Corner, centre and side of a square, once over p. Assumes nothing.
 use mathlib.Core.Path.{◌≡◌, refl, sym, ap, ◌∙◌, subst}
 use mathlib.Core.Bool.{Bool, true, false, cond, ◌&&◌}
-use Prim.Native.Nat.{ℕ, ◌+◌, ◌-◌, ◌*◌, ◌/◌, ◌^◌, ◌≤◌, ◌<◌}
+use Prim.Native.Nat.{ℕ, zero-le, ◌+◌, ◌-◌, ◌*◌, ◌/◌, ◌^◌, ◌≤◌, ◌<◌}
 use native.Mathlib.Nat.{add-mul, mul_assoc, mul_comm, one-mul, mul-lt-mul_of_pos_right, div-eq_of_lt-le, div-lt_iff_lt-mul, le-div_iff_mul-le}
 use native.Mathlib.Omega.{arith}
-use borrow.Author.Tests.{lt-ltb, le-ltb, le-leb, lt-leb, ltb-true, ltb-false, leb-true, eq-eqb, ne_eqb}
+use borrow.Author.Tests.{lt-ltb, le-ltb, le-leb, lt-leb, ltb-true, leb-true, eq-eqb, ne_eqb}
 use lib.Dec.{T, ltb, leb, eqb}
-use lib.IntN.{ℤ, pos, negsuc}
+use lib.IntN.{ℤ, pos, negsuc, nat_abs}
+use lib.Signed.{lt_z}
+use Rattle.whole.specs.Powers.{power_of_ten}
 use mir.Facts.{and_yes}
 use Rattle.whole.proofs.Parts.{up, dn, clash, T_true, eq_by, sub_parts}
-use Rattle.whole.proofs.Powers.{ten_pos, ten_split, ten_le}
+use Rattle.whole.proofs.Powers.{ten_is, ten_pos, ten_split, ten_le}
 use Rattle.position.specs.inner.Counts.{count_of}
 use Rattle.position.specs.Squares.{half_of, side_length, number_of, centre, centre_of, corner_of, holds}
 
@@ -17,6 +19,12 @@ use Rattle.position.specs.Squares.{half_of, side_length, number_of, centre, cent
 pub half_is : (n : ℕ) → n ≤ 11 → half_of (pos n) ≡ 10 ^ (11 - n)
 unfolding half_of
 half_is n h = rw (le-ltb 11 n h)
+
+-- the same as the program tests p
+pub half_tests : (p : ℤ) → half_of p ≡ cond (lt_z p (pos 0)) 0 (cond (lt_z (pos 11) p) 0 (power_of_ten (11 - nat_abs p)))
+unfolding half_of
+half_tests (negsuc n) = refl
+half_tests (pos n) = rw (le-ltb n 0 zero-le) (ap (cond (ltb 11 n) 0) (sym (ten_is (11 - n) (omega arith))))
 
 -- p is its count of digits, or there is no square
 counted_by : (n : ℕ) (t : Bool) → ltb 11 n ≡ t → cond t 12 n ≤ 11 → n ≡ cond t 12 n
@@ -27,15 +35,6 @@ pub counted : (p : ℤ) → count_of p ≤ 11 → p ≡ pos (count_of p)
 unfolding count_of
 counted (pos n) h = ap pos (counted_by n (ltb 11 n) refl h)
 counted (negsuc n) h = absurd (omega arith)
-
-none_by : (n : ℕ) (t : Bool) → ltb 11 n ≡ t → 11 < cond t 12 n → t ≡ true
-none_by n true e h = refl
-none_by n false e h = absurd (omega (arith, ltb-false 11 n e))
-
-pub none : (p : ℤ) → 11 < count_of p → (half_of p ≡ 0) × ((t d : ℕ) → centre_of p t d ≡ 0)
-unfolding count_of half_of centre_of
-none (pos n) h = let e = none_by n (ltb 11 n) refl h in (rw e, λ t d. rw e)
-none (negsuc n) h = (refl, λ t d. refl)
 
 half_by : (n : ℕ) (t : Bool) → ltb 11 n ≡ t → cond t 0 (10 ^ (11 - n)) ≤ 100000000000
 half_by n true e = omega arith

@@ -3,7 +3,6 @@
 
 ghost use Rattle.std.specs.Prelude.{◌≡◌};
 ghost use Rattle.position.specs.Squares.{half_of, side_length, corner_of, south_west};
-ghost use Rattle.position.specs.inner.Counts.{count_of};
 
 // What a reference stands for. Zone 0 is UPS; p is the digits of each axis, -1 for a bare zone. In this order of the fields an answer
 // is copied in the pieces in which it was stored, and no copy waits.
@@ -29,31 +28,20 @@ pub struct Parts {
     pub northing: u64,
 }
 
-// p as a count of digits; 12 for a bare zone and any other p, which have none.
-fn count_of(p: i64) -> usize
-    ensures { result ≡ count_of p }
-{
-    if p < 0 {
-        return 12;
-    }
-    if 11 < p {
-        return 12;
-    }
-    p as usize
-}
-
 // Half the side of a square of p digits; 0 for a bare zone and any other p.
+// Kept: no Option here, since the definition `half_of` has 0 for such a p.
+#[tactic(auto, using(crate::proofs::Squares::half_tests))]
 pub fn half_of(p: i64) -> u64
     ensures { result ≡ half_of p }
 {
-    let n = count_of(p);
-    if 11 < n {
-        return 0;
+    match p {
+        0..=11 => whole::power_of_ten(11 - p as usize),
+        _ => 0,
     }
-    whole::power_of_ten(11 - n)
 }
 
 // The side of a square of p digits.
+#[tactic(auto, unfolding(crate::specs::Squares::side_length), using(crate::proofs::Squares::half_le))]
 pub fn side_length(p: i64) -> u64
     ensures { result ≡ side_length p }
 {
@@ -61,29 +49,23 @@ pub fn side_length(p: i64) -> u64
 }
 
 // The west or south edge of the square around a centre; 0 where the centre is not half a side from 0.
+// Kept: the `if` is no longer than `centre.saturating_sub(half).max(0)`, and reads as document 01 does.
+#[tactic(auto, unfolding(crate::specs::Squares::corner_of), using(crate::proofs::Squares::half_le))]
 pub fn corner_of(p: i64, centre: i64) -> i64
     ensures { result ≡ corner_of p centre }
 {
     let half = half_of(p) as i64;
-    if centre < half {
-        return 0;
-    }
-    centre - half
+    if centre < half { 0 } else { centre - half }
 }
 
 // A read position at the south-west corner of its square; a bare zone's point stays.
 pub fn south_west(q: Position) -> Position
     ensures { result ≡ south_west q }
 {
-    let easting = corner_of(q.p, q.easting);
-    let northing = corner_of(q.p, q.northing);
     Position {
-        zone: q.zone,
-        north: q.north,
-        band: q.band,
-        p: q.p,
-        easting,
-        northing,
+        easting: corner_of(q.p, q.easting),
+        northing: corner_of(q.p, q.northing),
+        ..q
     }
 }
 

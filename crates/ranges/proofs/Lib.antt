@@ -1,4 +1,3 @@
-mod Bounds
 pub mod Edges
 pub mod Reach
 pub mod Stays

@@ -13,10 +13,10 @@ use Rattle.whole.proofs.Signed.{same→eq, same_yes}
 use Rattle.bands.specs.declared.Grid.{Grid}
 use Rattle.bands.specs.declared.Grid.TheVariants.{Utm, Ups, NoZone}
 use Rattle.bands.specs.Bands.{grid_of}
+use Rattle.std.proofs.Common.{Ok, Err}
+use Rattle.rules.specs.declared.Refusal.TheVariants.{EastingOut, NorthingOut}
 use Rattle.ranges.specs.declared.Ends.{Ends}
 use Rattle.ranges.specs.declared.Point.{Point}
-use Rattle.ranges.specs.declared.MgrsCheck.TheVariants.{Moved}
-use Rattle.ranges.specs.declared.Verdict.TheVariants.{Inside, Outside}
 use Rattle.position.specs.Units.{tiles}
 use Rattle.ranges.specs.Ranges.{from_to, eastings, northings, moved, outside_of, judged, verdict}
 use Rattle.ranges.specs.Edges.{lowered, point, side_of, edge, moved_by, mgrs_check}
@@ -31,19 +31,19 @@ record Landed (utm north : Bool) (e n : ℤ) (pt : Point) : Type 0 where
 
 module _ (north : Bool) (e n : ℤ) (pt : Point) where
   -- what is moved passed both tests
-  moved_by_lem : (utm a b : Bool) → moved_by north e n (cond a (Outside 16) (cond b (Outside 17) (Inside utm))) ≡ Moved pt → (cond a (Outside 16) (cond b (Outside 17) (Inside utm)) ≡ Inside utm) × (pt ≡ edge utm north e n)
+  moved_by_lem : (utm a b : Bool) → moved_by north e n (cond a (Err EastingOut) (cond b (Err NorthingOut) (Ok utm))) ≡ Ok pt → (cond a (Err EastingOut) (cond b (Err NorthingOut) (Ok utm)) ≡ Ok utm) × (pt ≡ edge utm north e n)
   moved_by_lem utm true b h = clash (cc)
   moved_by_lem utm false true h = clash (cc)
   moved_by_lem utm false false h = (refl, cc)
 
   -- a point that is moved was inside the ranges of its grid
-  landed : (utm : Bool) → moved_by north e n (judged (pos 0) utm north e n) ≡ Moved pt → Landed utm north e n pt
+  landed : (utm : Bool) → moved_by north e n (judged (pos 0) utm north e n) ≡ Ok pt → Landed utm north e n pt
   unfolding judged
   landed utm h =
       let a = moved_by_lem utm (outside_of (moved (pos 0) (eastings utm north)) e) (outside_of (moved (pos 0) (northings utm north)) n) h in
       record { in_range = inside utm north e n a.0; is = a.1 }
 
-  module _ (zone : ℤ) (h : mgrs_check zone north e n ≡ Moved pt) where
+  module _ (zone : ℤ) (h : mgrs_check zone north e n ≡ Ok pt) where
     -- by the grid of the zone
     utm_landed : grid_of zone ≡ Utm → Landed true north e n pt
     unfolding mgrs_check verdict
@@ -218,7 +218,7 @@ utm_stands : (pt : Point) → UtmReach pt → Stands pt
 utm_stands pt r =
     record { least = counted_least 1 9 pt.easting (lit≤ tt) r.east; east = counted_is 1 9 pt.easting r.east; north = utm_north pt pt.north refl r }
 
-module _ (zone : ℤ) (north : Bool) (e n : ℤ) (pt : Point) (h : mgrs_check zone north e n ≡ Moved pt) where
+module _ (zone : ℤ) (north : Bool) (e n : ℤ) (pt : Point) (h : mgrs_check zone north e n ≡ Ok pt) where
   -- after the edge rules, in UTM
   pub utm_reach : grid_of zone ≡ Utm → UtmReach pt
   unfolding edge

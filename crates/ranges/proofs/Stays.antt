@@ -12,9 +12,8 @@ use Rattle.whole.proofs.Parts.{up, dn, lt_yes, add_parts, sub_parts}
 use Rattle.whole.proofs.Signed.{same_no}
 use Rattle.bands.specs.declared.Grid.TheVariants.{Utm, Ups}
 use Rattle.bands.specs.Bands.{grid_of}
+use Rattle.std.proofs.Common.{Ok}
 use Rattle.ranges.specs.declared.Ends.{Ends}
-use Rattle.ranges.specs.declared.MgrsCheck.TheVariants.{Moved}
-use Rattle.ranges.specs.declared.Verdict.TheVariants.{Inside}
 use Rattle.position.specs.Units.{tile_at}
 use Rattle.ranges.specs.Ranges.{from_to, eastings, northings, moved, outside_of, judged, verdict}
 use Rattle.ranges.specs.Edges.{lowered, point, side_of, edge, mgrs_check}
@@ -45,14 +44,14 @@ in_tiles a b x h g = record { from = omega arith; to = omega arith }
 
 module _ (zone : ℤ) (north : Bool) (e n : ℤ) where
   -- what its own grid judges to be inside is inside
-  inside_by : (utm : Bool) → grid_of zone ≡ cond utm Utm Ups → judged (pos 0) utm north e n ≡ Inside utm → verdict (pos 0) zone north e n ≡ Inside utm
+  inside_by : (utm : Bool) → grid_of zone ≡ cond utm Utm Ups → judged (pos 0) utm north e n ≡ Ok utm → verdict (pos 0) zone north e n ≡ Ok utm
   unfolding verdict
   inside_by true g j = rw (g, j)
   inside_by false g j = rw (g, j)
 
   -- a point within both ranges is left to the rule of sides
   within_both : (utm : Bool) → grid_of zone ≡ cond utm Utm Ups → Under (eastings utm north) e → Under (northings utm north) n
-      → mgrs_check zone north e n ≡ Moved (cond utm (side_of north e n) (point north e n))
+      → mgrs_check zone north e n ≡ Ok (cond utm (side_of north e n) (point north e n))
   unfolding mgrs_check judged edge
   within_both utm g w v =
       let i = inside_by utm g (rw (not_out (eastings utm north) e w, not_out (northings utm north) n v)) in
@@ -61,7 +60,7 @@ module _ (zone : ℤ) (north : Bool) (e n : ℤ) where
 module _ (zone : ℤ) (e n : ℕ) where
   -- UTM, north of the equator
   pub north_stays : grid_of zone ≡ Utm → 1 ≤ tile_at e → tile_at e < 9 → tile_at n < 95
-      → mgrs_check zone true (pos e) (pos n) ≡ Moved (point true (pos e) (pos n))
+      → mgrs_check zone true (pos e) (pos n) ≡ Ok (point true (pos e) (pos n))
   unfolding side_of up dn
   north_stays g a b h =
       let v : Under (northings true true) (pos n) = record { from = omega arith; to = omega arith } in
@@ -69,7 +68,7 @@ module _ (zone : ℤ) (e n : ℕ) where
 
   -- and south of it
   pub south_stays : grid_of zone ≡ Utm → 1 ≤ tile_at e → tile_at e < 9 → 10 ≤ tile_at n → tile_at n < 100
-      → mgrs_check zone false (pos e) (pos n) ≡ Moved (point false (pos e) (pos n))
+      → mgrs_check zone false (pos e) (pos n) ≡ Ok (point false (pos e) (pos n))
   unfolding side_of
   south_stays g a b h k =
       let below : n < 20000000000000 = omega arith in
@@ -79,6 +78,6 @@ module _ (zone : ℤ) (e n : ℕ) where
   -- UPS, whose ranges are the same on both axes
   pub polar_stays : (north : Bool) (a b : ℕ) → grid_of zone ≡ Ups → eastings false north ≡ from_to (pos a) (pos b)
       → a ≤ tile_at e → tile_at e < b → a ≤ tile_at n → tile_at n < b
-      → mgrs_check zone north (pos e) (pos n) ≡ Moved (point north (pos e) (pos n))
+      → mgrs_check zone north (pos e) (pos n) ≡ Ok (point north (pos e) (pos n))
   polar_stays north a b g ends h k i j =
       within_both zone north (pos e) (pos n) false g (rw ends (in_tiles a b e h k)) (rw ends (in_tiles a b n i j))

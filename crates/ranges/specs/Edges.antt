@@ -1,13 +1,10 @@
 -- The edge rules and the MGRS range test: document 01, "Writing". Assumes nothing.
-use Rattle.std.specs.Prelude.{Bool, true, false, cond, ℤ, pos, ◌+ℤ◌, ◌-ℤ◌}
+use Rattle.std.specs.Prelude.{Bool, true, false, cond, Result, Ok, Err, ℤ, pos, ◌+ℤ◌, ◌-ℤ◌}
 use Rattle.std.specs.Int.Signed.{lt_z, le_z}
 use Rattle.whole.specs.Compare.{same}
 use Rattle.ranges.specs.declared.Ends.{Ends}
 use Rattle.ranges.specs.declared.Point.{Point}
-use Rattle.ranges.specs.declared.MgrsCheck.{MgrsCheck}
-use Rattle.ranges.specs.declared.MgrsCheck.TheVariants.{Moved, Refused}
-use Rattle.ranges.specs.declared.Verdict.{Verdict}
-use Rattle.ranges.specs.declared.Verdict.TheVariants.{Inside, Outside}
+use Rattle.rules.specs.declared.Refusal.{Refusal}
 use Rattle.position.specs.Units.{tiles}
 use Rattle.ranges.specs.Ranges.{eastings, northings, verdict}
 
@@ -33,11 +30,11 @@ edge utm north e n =
     let n' = lowered (northings utm north) n in
     cond utm (side_of north e' n') (point north e' n')
 
-abbrev pub moved_by : Bool → ℤ → ℤ → Verdict → MgrsCheck
-moved_by north e n (Inside utm) = Moved (edge utm north e n)
-moved_by north e n (Outside k) = Refused k
+abbrev pub moved_by : Bool → ℤ → ℤ → Result Bool Refusal → Result Point Refusal
+moved_by north e n (Ok utm) = Ok (edge utm north e n)
+moved_by north e n (Err r) = Err r
 
 -- "MGRS range test: 14, 16, 17 by the ranges above": "lower end in, upper end by the edge rule", so with no margin and
 -- the upper end in, to be lowered.
-unfoldable pub mgrs_check : ℤ → Bool → ℤ → ℤ → MgrsCheck
+unfoldable pub mgrs_check : ℤ → Bool → ℤ → ℤ → Result Point Refusal
 mgrs_check zone north e n = moved_by north e n (verdict (pos 0) zone north e n)

@@ -1,13 +1,11 @@
 -- The ranges of eastings and northings, and the UTM range test: document 01, "Writing" and "Smaller services". Assumes nothing.
-use Rattle.std.specs.Prelude.{Bool, true, false, cond, ℤ, pos, negsuc, ◌+ℤ◌, ◌-ℤ◌}
+use Rattle.std.specs.Prelude.{Bool, true, false, cond, Result, Ok, Err, ℤ, pos, negsuc, ◌+ℤ◌, ◌-ℤ◌}
 use Rattle.whole.specs.Compare.{outside}
 use Rattle.position.specs.Units.{tiles}
 use Rattle.bands.specs.Bands.{grid_of, by_grid}
 use Rattle.ranges.specs.declared.Ends.{Ends}
-use Rattle.ranges.specs.declared.UtmCheck.{UtmCheck}
-use Rattle.ranges.specs.declared.UtmCheck.TheVariants.{InRange, Refused}
-use Rattle.ranges.specs.declared.Verdict.{Verdict}
-use Rattle.ranges.specs.declared.Verdict.TheVariants.{Inside, Outside}
+use Rattle.rules.specs.declared.Refusal.{Refusal}
+use Rattle.rules.specs.declared.Refusal.TheVariants.{NoSuchZone, EastingOut, NorthingOut}
 
 abbrev pub from_to : ℤ → ℤ → Ends
 from_to a b = record { low = tiles a; high = tiles b }
@@ -32,20 +30,20 @@ moved margin ends = record { low = ends.low -ℤ margin; high = ends.high +ℤ m
 abbrev pub outside_of : Ends → ℤ → Bool
 outside_of ends x = outside ends.low ends.high x
 
--- "16 easting out of range; 17 northing out of range", in this order: inside, of UTM or UPS, or the number.
-unfoldable pub judged : ℤ → Bool → Bool → ℤ → ℤ → Verdict
+-- "16 easting out of range; 17 northing out of range", in this order: inside, of UTM or UPS, or the refusal.
+unfoldable pub judged : ℤ → Bool → Bool → ℤ → ℤ → Result Bool Refusal
 judged margin utm north e n =
-    cond (outside_of (moved margin (eastings utm north)) e) (Outside 16)
-    (cond (outside_of (moved margin (northings utm north)) n) (Outside 17) (Inside utm))
+    cond (outside_of (moved margin (eastings utm north)) e) (Err EastingOut)
+    (cond (outside_of (moved margin (northings utm north)) n) (Err NorthingOut) (Ok utm))
 
 -- "14 zone not 0..60", before the two.
-unfoldable pub verdict : ℤ → ℤ → Bool → ℤ → ℤ → Verdict
-verdict margin zone north e n = by_grid (grid_of zone) (judged margin true north e n) (judged margin false north e n) (Outside 14)
+unfoldable pub verdict : ℤ → ℤ → Bool → ℤ → ℤ → Result Bool Refusal
+verdict margin zone north e n = by_grid (grid_of zone) (judged margin true north e n) (judged margin false north e n) (Err NoSuchZone)
 
-abbrev pub in_range : Verdict → UtmCheck
-in_range (Inside utm) = InRange
-in_range (Outside n) = Refused n
+abbrev pub in_range : Result Bool Refusal → Result (Unit {0}) Refusal
+in_range (Ok utm) = Ok tt
+in_range (Err r) = Err r
 
 -- "UTM range test: the same numbers, both ends in and moved outward by one tile."
-unfoldable pub utm_check : ℤ → Bool → ℤ → ℤ → UtmCheck
+unfoldable pub utm_check : ℤ → Bool → ℤ → ℤ → Result (Unit {0}) Refusal
 utm_check zone north e n = in_range (verdict (tiles (pos 1)) zone north e n)

@@ -12,9 +12,10 @@ use Rattle.position.proofs.Exact.{Exactly}
 use Rattle.runs.proofs.Halves.{halved_by}
 use Rattle.block.proofs.Placed.{low}
 use Rattle.block.proofs.Near.{Near, point_near}
-use Rattle.reader.specs.declared.Answer.TheVariants.{Square, Bare}
 use Rattle.reader.specs.Read.{square_of, read_of}
 use Rattle.reader.proofs.Stages.{squared, bared}
+use Rattle.std.specs.Prelude.{Ok}
+use Rattle.reader.specs.declared.Reading.TheVariants.{Square, Bare}
 
 -- of a square: inside its tile
 units_lt : (n t d : ℕ) → n ≤ 11 → t < 100 → d < 10 ^ n → centre_of (pos n) t d ≤ 9007199254740991
@@ -27,7 +28,7 @@ units_lt n t d h g k =
 axis : (p : ℤ) (n t d : ℕ) → p ≡ pos n → n ≤ 11 → t < 100 → d < 10 ^ n → Exactly (pos (centre_of p t d))
 axis p n t d e h g k = rw e (count 9007199254740991 (centre_of (pos n) t d) (units_lt n t d h g k))
 
-pub square_near : (s : List ℕ) (q : Position) → read_of s ≡ Square q → Near q
+pub square_near : (s : List ℕ) (q : Position) → read_of s ≡ Ok (Square q) → Near q
 unfolding square_of
 square_near s q e =
     let a = squared s q e in
@@ -35,5 +36,5 @@ square_near s q e =
     let t = low _ _ _ _ _ a.is_block in
     rw a.is (record { east = axis _ d.n _ _ d.p d.few t.east d.east_lt; north = axis _ d.n _ _ d.p d.few t.north d.north_lt })
 
-pub bare_near : (s : List ℕ) (q : Position) → read_of s ≡ Bare q → Near q
+pub bare_near : (s : List ℕ) (q : Position) → read_of s ≡ Ok (Bare q) → Near q
 bare_near s q e = let a = bared s q e in rw a.is (point_near _ _)

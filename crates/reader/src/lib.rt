@@ -1,5 +1,6 @@
-// Reads a reference: bytes to parts, parts to a position, or the number of the rule by which the text is turned away. The head, the
-// block and the digits are calls of their own; here they come together.
+// Reads a reference: bytes to parts, parts to a position, or the rule by which the text is turned away. The head, the
+// block and the digits are calls of their own; here they come together. Kept: zone, band and the rest one by one, as the public `tail_of`
+// takes them.
 #![tactic(auto)]
 
 ghost use Rattle.std.specs.Prelude.{◌≡◌, true, ◌+◌, ◌*◌, ◌^◌, ◌≤◌, ◌<◌, pos, length};
@@ -8,10 +9,9 @@ ghost use Rattle.position.specs.inner.Counts.{count_of, exact};
 ghost use Rattle.position.specs.Squares.{half_of};
 ghost use Rattle.reader.specs.Metres.{metres_at, metres_read};
 
-use block::{BlockAnswer, Tiles};
-use head::HeadAnswer;
+use block::Tiles;
 use position::{Metres, Parts, Position};
-use runs::DigitsAnswer;
+use rules::Refusal;
 
 // ---- parts to position
 
@@ -44,79 +44,59 @@ fn square_of(half: u64, parts: Parts, tiles: Tiles) -> Position
     }
 }
 
-// What a text means: a square, a bare zone that is never taken for one, or the number of the rule that it breaks.
+// What a text means, in units or in metres: a square, or a bare zone that is never taken for one.
 #[derive(Clone, Copy)]
-pub enum Answer {
-    Square(Position),
-    Bare(Position),
-    Refused(u64),
+pub enum Reading<T> {
+    Square(T),
+    Bare(T),
 }
 
 // From the column letter on. Half a side is looked up by the length, before the digits are: behind their loop it would be a jump.
-fn full_of(zone: i64, band: u8, rest: &[u8]) -> Answer
+#[tactic(auto, unfolding(crate::specs::Read::full_of))]
+fn full_of(zone: i64, band: u8, rest: &[u8]) -> Result<Reading<Position>, Refusal>
     requires { 2 ≤ length rest.now }
     ensures { result ≡ full_of zone band rest.now }
 {
     let column = letters::capital(rest[0]);
     let row = letters::capital(rest[1]);
     let half = position::half_of(((rest.len() - 2) / 2) as i64);
-    match block::block_of(zone, band, column, row) {
-        BlockAnswer::NoBlock(n) => Answer::Refused(n),
-        BlockAnswer::Block(tiles) => match runs::digits_of(&rest[2..]) {
-            DigitsAnswer::NoHalves(n) => Answer::Refused(n),
-            DigitsAnswer::Halves(d) => {
-                let parts = Parts {
-                    zone,
-                    band,
-                    column,
-                    row,
-                    p: d.p,
-                    easting: d.easting,
-                    northing: d.northing,
-                };
-                Answer::Square(square_of(half, parts, tiles))
-            }
-        },
-    }
+    let tiles = block::block_of(zone, band, column, row)?;
+    let digits = runs::digits_of(&rest[2..])?;
+    let parts = Parts {
+        zone,
+        band,
+        column,
+        row,
+        p: digits.p,
+        easting: digits.easting,
+        northing: digits.northing,
+    };
+    Ok(Reading::Square(square_of(half, parts, tiles)))
 }
 
 // From the byte after the band on: a bare zone, 7 to 13 or a square.
 #[tactic(auto, unfolding(crate::specs::Read::tail_of))]
-pub fn tail_of(zone: i64, band: u8, rest: &[u8]) -> Answer
+pub fn tail_of(zone: i64, band: u8, rest: &[u8]) -> Result<Reading<Position>, Refusal>
     ensures { result ≡ tail_of zone band rest.now }
 {
-    let n = rest.len();
-    if n == 0 {
-        return Answer::Bare(block::bare_of(zone, band));
+    match rest.len() {
+        0 => Ok(Reading::Bare(block::bare_of(zone, band))),
+        1 => Err(Refusal::LoneLetter),
+        _ => full_of(zone, band, rest),
     }
-    if n == 1 {
-        return Answer::Refused(7);
-    }
-    full_of(zone, band, rest)
 }
 
 // Reads any bytes.
-pub fn read(text: &[u8]) -> Answer
+#[tactic(auto, unfolding(crate::specs::Read::read_of))]
+pub fn read(text: &[u8]) -> Result<Reading<Position>, Refusal>
     ensures { result ≡ read_of text.now }
 {
-    match head::head_of(text) {
-        HeadAnswer::NoStart(n) => Answer::Refused(n),
-        HeadAnswer::Start(head) => {
-            let next = head.next;
-            tail_of(head.zone, head.band, &text[next..])
-        }
-    }
+    let head = head::head_of(text)?;
+    let next = head.next;
+    tail_of(head.zone, head.band, &text[next..])
 }
 
 // ---- metres
-
-// The same in metres: a square, a bare zone, or the number.
-#[derive(Clone, Copy)]
-pub enum MetresRead {
-    SquareMetres(Metres),
-    BareMetres(Metres),
-    Refused(u64),
-}
 
 const METRE_UNITS: f64 = 2_000_000.0;
 
@@ -131,12 +111,12 @@ fn metres_at(q: Position) -> Metres
 }
 
 // Reads any bytes, and answers in metres.
-pub fn read_metres(text: &[u8]) -> MetresRead
+#[tactic(auto, unfolding(crate::specs::Metres::metres_read))]
+pub fn read_metres(text: &[u8]) -> Result<Reading<Metres>, Refusal>
     ensures { result ≡ metres_read text.now }
 {
-    match read(text) {
-        Answer::Square(q) => MetresRead::SquareMetres(metres_at(q)),
-        Answer::Bare(q) => MetresRead::BareMetres(metres_at(q)),
-        Answer::Refused(n) => MetresRead::Refused(n),
-    }
+    Ok(match read(text)? {
+        Reading::Square(q) => Reading::Square(metres_at(q)),
+        Reading::Bare(q) => Reading::Bare(metres_at(q)),
+    })
 }

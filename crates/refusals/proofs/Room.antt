@@ -5,42 +5,44 @@ use mathlib.Core.Bool.{Bool}
 use mathlib.Core.List.{List}
 use Prim.Native.Nat.{ℕ, ◌*◌, ◌^◌, ◌≤◌, ◌<◌}
 use native.Mathlib.Omega.{arith}
-use lib.Dec.{T, leb}
 use lib.IntN.{ℤ, pos}
+use lib.Dec.{T, leb}
 use mir.Syntax.{w8, w64}
 use mir.Val.{Fits, SFits}
 use Rattle.whole.specs.Compare.{outside}
 use Rattle.whole.proofs.Parts.{clash}
 use Rattle.whole.proofs.Choice.{past}
-use Rattle.reader.specs.declared.Answer.{Answer}
-use Rattle.reader.specs.declared.Answer.TheVariants.{Square, Bare, Refused as NotRead}
 use Rattle.reader.specs.Read.{read_of}
-use Rattle.composer.specs.declared.Composed.{Composed}
-use Rattle.composer.specs.declared.Composed.TheVariants.{Full, Bare as BareText, Refused as NotComposed}
 use Rattle.composer.specs.Compose.{composed}
-use Rattle.writer.specs.declared.Written.TheVariants.{Length}
 use Rattle.writer.specs.Text.{head_text, full_text}
 use Rattle.writer.specs.Write.{answered, write_of}
 use Rattle.writer.proofs.Fit.{fitted}
 use Rattle.squares.specs.Shorten.{corner_written, shortened, short_of}
 use Rattle.refusals.proofs.Refusals.{Among, every, up_to_22}
+use Rattle.std.specs.Prelude.{Result, Ok, Err}
+use Rattle.rules.specs.declared.Refusal.{Refusal}
+use Rattle.reader.specs.declared.Reading.{Reading}
+use Rattle.reader.specs.declared.Reading.TheVariants.{Square, Bare}
+use Rattle.composer.specs.declared.Reference.{Reference}
+use Rattle.composer.specs.declared.Reference.TheVariants.{Full, Bare as BareText}
+use Rattle.position.specs.declared.Position.{Position}
 
-write_by : (c : Composed) (m k : ℕ) → answered c m ≡ Length k → k ≤ m
-write_by (Full parts) m k x = (fitted (full_text parts) m k x).1
-write_by (BareText z) m k x = (fitted (head_text z.zone z.band) m k x).1
-write_by (NotComposed j) m k x = clash (cc)
+write_by : (c : Result Reference Refusal) (m k : ℕ) → answered c m ≡ Ok k → k ≤ m
+write_by (Ok (Full parts)) m k x = (fitted (full_text parts) m k x).1
+write_by (Ok (BareText z)) m k x = (fitted (head_text z.zone z.band) m k x).1
+write_by (Err j) m k x = clash (cc)
 
-pub write_room : (zone : ℤ) (north : Bool) (band : ℕ) (p e n : ℤ) (m k : ℕ) → write_of zone north band p e n m ≡ Length k → k ≤ m
+pub write_room : (zone : ℤ) (north : Bool) (band : ℕ) (p e n : ℤ) (m k : ℕ) → write_of zone north band p e n m ≡ Ok k → k ≤ m
 unfolding write_of
 write_room zone north band p e n m k x = write_by (composed zone north band p e n) m k x
 
-short_by : (a : Answer) (q : ℤ) (m k : ℕ) → shortened a q m ≡ Length k → k ≤ m
+short_by : (a : Result (Reading Position) Refusal) (q : ℤ) (m k : ℕ) → shortened a q m ≡ Ok k → k ≤ m
 unfolding corner_written
-short_by (NotRead j) q m k x = clash (cc)
-short_by (Bare y) q m k x = clash (cc)
-short_by (Square y) q m k x = write_room _ _ _ _ _ _ m k (past (outside (pos 0) y.p q) _ _ _ (λ e. clash (cc)) x).1
+short_by (Err j) q m k x = clash (cc)
+short_by (Ok (Bare y)) q m k x = clash (cc)
+short_by (Ok (Square y)) q m k x = write_room _ _ _ _ _ _ m k (past (outside (pos 0) y.p q) _ _ _ (λ e. clash (cc)) x).1
 
-pub short_room : (s : List ℕ) (q : ℤ) (m k : ℕ) → short_of s q m ≡ Length k → k ≤ m
+pub short_room : (s : List ℕ) (q : ℤ) (m k : ℕ) → short_of s q m ≡ Ok k → k ≤ m
 unfolding short_of
 short_room s q m k x = short_by (read_of s) q m k x
 

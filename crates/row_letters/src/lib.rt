@@ -7,7 +7,7 @@ ghost use Rattle.row_letters.specs.RowLetters.{ups_rows, rows_of};
 ghost use Rattle.row_letters.specs.inner.Halves.{row_stretch};
 
 use bands::Grid;
-use letters::{Place, Stretch};
+use letters::Stretch;
 
 const UTM_ROWS: [u8; 20] = *b"ABCDEFGHJKLMNPQRSTUV";
 
@@ -15,6 +15,7 @@ const UTM_ROWS: [u8; 20] = *b"ABCDEFGHJKLMNPQRSTUV";
 const UPS_ROWS: [u8; 38] = *b"ABCDEFGHJKLMNPQRSTUVWXYZABCDEFGHJKLMNP";
 
 // The rows of a UPS hemisphere.
+#[tactic(auto, unfolding(crate::specs::inner::Halves::row_stretch))]
 fn ups_rows(north: bool) -> Stretch
     ensures { result ≡ row_stretch north }
 {
@@ -35,7 +36,7 @@ fn ups_rows(north: bool) -> Stretch
 }
 
 // The place of a row's letter in UTM.
-pub fn utm_place(letter: u8) -> Place
+pub fn utm_place(letter: u8) -> Option<usize>
     ensures { result ≡ place_of UtmRows letter }
 {
     let set = UTM_ROWS;
@@ -47,24 +48,23 @@ pub fn utm_place(letter: u8) -> Place
 }
 
 // The tile of a row's letter in a UPS hemisphere.
-pub fn ups_tile(north: bool, letter: u8) -> Place
+pub fn ups_tile(north: bool, letter: u8) -> Option<usize>
     ensures { result ≡ tile_in (ups_rows north) letter }
 {
     let s = ups_rows(north);
     let start = s.start as usize;
     let end = s.end as usize;
     let table = UPS_ROWS;
-    match letters::confirmed(
+    letters::tile_of(
         &table[start..end],
         letters::behind(letter, letters::skipped(letter), s.first),
         letter,
-    ) {
-        Place::At(k) => Place::At(s.tile as usize + k),
-        Place::NotInSet => Place::NotInSet,
-    }
+        s.tile,
+    )
 }
 
-// The row's letter at a place, 0 past the last.
+// The row's letter at a place, 0 past the last. Kept, like the next, as its like of `columns` is.
+#[tactic(auto, unfolding(crate::specs::RowLetters::rows_of, letters::specs::Letters::letter_at), using(crate::proofs::Guesses::in_table))]
 pub fn row_letter(zone: i64, north: bool, place: usize) -> u8
     ensures { result ≡ letter_at (rows_of zone north) place }
 {
@@ -85,6 +85,7 @@ pub fn row_letter(zone: i64, north: bool, place: usize) -> u8
 }
 
 // The tile of the first row; UTM rows count none.
+#[tactic(auto, unfolding(crate::specs::RowLetters::rows_of, letters::specs::Letters::first_tile), using(crate::proofs::Guesses::rows_are))]
 pub fn first_row(zone: i64, north: bool) -> usize
     ensures { result ≡ first_tile (rows_of zone north) }
 {

@@ -1,6 +1,6 @@
 -- The limits' fields as they are read back from their bits, and the candidate by the lowest row, step by step. Assumes nothing.
 use mathlib.Core.Path.{◌≡◌, ap, ◌∙◌}
-use Prim.Native.Nat.{ℕ, ◌+◌, ◌%◌, ◌^◌, ◌<◌}
+use Prim.Native.Nat.{ℕ, ◌+◌, ◌%◌, ◌<◌}
 use native.Mathlib.Omega.{arith}
 use lib.Dec.{lit<, lit≤}
 use lib.IntN.{ℤ, pos, negsuc, ◌-ℤ◌}
@@ -9,7 +9,7 @@ use mir.Syntax.{w64}
 use mir.Val.{SFits, to_z, of_z}
 use mir.Facts.{to_z-of_z}
 use Rattle.whole.specs.Floor.{floor_mod}
-use Rattle.whole.proofs.Parts.{up, dn, le_true, sub_parts, sfits_up}
+use Rattle.whole.proofs.Parts.{up, dn, le_true, sub_parts}
 use Rattle.whole.proofs.Floor.{floor_mod_lt, mod_parts}
 use Rattle.whole.proofs.Signed.{is_count}
 use Rattle.whole.proofs.Small.{Small, fits, count, sum, difference, remainder}
@@ -55,9 +55,6 @@ module _ (low : ℤ) (s : Small 90 low) where
         let e = sub_parts (pos (p + 100)) (low -ℤ pos 1) in
         let m = base_small.most in
         is_count gap (omega arith)
-
-    pub gap_lt : up gap < 2 ^ 63
-    gap_lt = sfits_up w64 gap gap_fits
 
     pub gap_mod : up gap % 20 ≡ floor_mod (pos (p % 20) -ℤ (low -ℤ pos 1)) 20
     unfolding up dn

@@ -5,9 +5,7 @@ use Prim.Native.Nat.{ℕ, zero, suc, ◌+◌, ◌≤◌, ◌<◌}
 use native.Mathlib.Omega.{arith}
 use lib.IntN.{ℤ, suc_ℤ}
 use Rattle.whole.proofs.Parts.{up, dn, clash, eq_by, suc_parts}
-use Rattle.rows.specs.declared.FoundRow.{FoundRow}
-use Rattle.rows.specs.declared.RowAnswer.{RowAnswer}
-use Rattle.rows.specs.declared.RowAnswer.TheVariants.{Row, Nothing}
+use Rattle.std.proofs.Common.{Option, Some, None}
 use Rattle.rows.specs.Resolve.{first_row}
 
 -- two tests that agree find the same row
@@ -18,29 +16,29 @@ first_same f g h r (suc n) = rw (h r, first_same f g h (suc_ℤ r) n)
 
 module _ (f : ℤ → Bool) where
   -- nothing passes, nothing is found
-  none_by : (r : ℤ) (later : RowAnswer) (t : Bool) → f r ≡ t → ((q : ℤ) → f q ≡ true → ⊥) → later ≡ Nothing → cond t (Row (record { row = r })) later ≡ Nothing
+  none_by : (r : ℤ) (later : Option ℤ) (t : Bool) → f r ≡ t → ((q : ℤ) → f q ≡ true → ⊥) → later ≡ None → cond t (Some r) later ≡ None
   none_by r later true e h k = absurd (h r e)
   none_by r later false e h k = k
 
-  pub first_none : ((q : ℤ) → f q ≡ true → ⊥) → (r : ℤ) (n : ℕ) → first_row f r n ≡ Nothing
+  pub first_none : ((q : ℤ) → f q ≡ true → ⊥) → (r : ℤ) (n : ℕ) → first_row f r n ≡ None
   unfolding first_row
   first_none h r zero = refl
   first_none h r (suc n) = none_by r (first_row f (suc_ℤ r) n) (f r) refl h (first_none h (suc_ℤ r) n)
 
   -- what is found passes
-  sound_by : (r : ℤ) (later : RowAnswer) (t : Bool) → f r ≡ t → (x : FoundRow) → (later ≡ Row x → f x.row ≡ true) → cond t (Row (record { row = r })) later ≡ Row x → f x.row ≡ true
-  sound_by r later true e x k h = let q : record { row = r } ≡ x = cc in ap (λ (y : FoundRow). f y.row) (sym q) ∙ e
+  sound_by : (r : ℤ) (later : Option ℤ) (t : Bool) → f r ≡ t → (x : ℤ) → (later ≡ Some x → f x ≡ true) → cond t (Some r) later ≡ Some x → f x ≡ true
+  sound_by r later true e x k h = let q : r ≡ x = cc in ap f (sym q) ∙ e
   sound_by r later false e x k h = k h
 
-  pub first_sound : (r : ℤ) (n : ℕ) (x : FoundRow) → first_row f r n ≡ Row x → f x.row ≡ true
+  pub first_sound : (r : ℤ) (n : ℕ) (x : ℤ) → first_row f r n ≡ Some x → f x ≡ true
   unfolding first_row
   first_sound r zero x e = clash (cc)
   first_sound r (suc n) x e = sound_by r (first_row f (suc_ℤ r) n) (f r) refl x (first_sound (suc_ℤ r) n x) e
 
   -- the only row that passes is found where it is among those tried
   module _ (x : ℤ) (p : f x ≡ true) (only : (q : ℤ) → f q ≡ true → q ≡ x) where
-    is_by : (r : ℤ) (later : RowAnswer) (t : Bool) → f r ≡ t → ((r ≡ x → ⊥) → later ≡ Row (record { row = x })) → cond t (Row (record { row = r })) later ≡ Row (record { row = x })
-    is_by r later true e k = ap (λ (q : ℤ). Row (record { row = q })) (only r e)
+    is_by : (r : ℤ) (later : Option ℤ) (t : Bool) → f r ≡ t → ((r ≡ x → ⊥) → later ≡ Some x) → cond t (Some r) later ≡ Some x
+    is_by r later true e k = ap (λ (q : ℤ). Some q) (only r e)
     is_by r later false e k = k (λ q. let z : true ≡ false = sym p ∙ ap f (sym q) ∙ e in clash (cc))
 
     after : (r : ℤ) → up r + dn x ≤ dn r + up x → (r ≡ x → ⊥) → up (suc_ℤ r) + dn x ≤ dn (suc_ℤ r) + up x
@@ -49,7 +47,7 @@ module _ (f : ℤ → Bool) where
         let ne : up r + dn x ≡ dn r + up x → ⊥ = λ e. d (eq_by r x (omega arith)) in
         omega arith
 
-    pub first_is : (n : ℕ) (r : ℤ) → up r + dn x ≤ dn r + up x → up x + dn r < dn x + up r + n → first_row f r n ≡ Row (record { row = x })
+    pub first_is : (n : ℕ) (r : ℤ) → up r + dn x ≤ dn r + up x → up x + dn r < dn x + up r + n → first_row f r n ≡ Some x
     unfolding first_row
     first_is zero r h k = absurd (omega arith)
     first_is (suc n) r h k =

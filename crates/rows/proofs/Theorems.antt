@@ -11,9 +11,7 @@ use lib.IntN.{ℤ, pos, negsuc}
 use lib.Signed.{◌≤ℤ◌}
 use mir.Facts.{and_yes, eqb_yes}
 use Rattle.whole.proofs.Parts.{up, dn, clash, T_true, le_true}
-use Rattle.rows.specs.declared.FoundRow.{FoundRow}
-use Rattle.rows.specs.declared.RowAnswer.{RowAnswer}
-use Rattle.rows.specs.declared.RowAnswer.TheVariants.{Row, Nothing}
+use Rattle.std.proofs.Common.{Option, Some, None}
 use Rattle.rows.specs.Allowed.{allowed, same_sign}
 use Rattle.rows.specs.Letters.{letter_of}
 use Rattle.rows.specs.Resolve.{means, resolve}
@@ -23,8 +21,8 @@ use Rattle.rows.proofs.Period.{letter_lt, same_row, same_test, candidate_is, is_
 use Rattle.rows.proofs.First.{first_same, first_none, first_sound, first_is}
 
 -- a row as an answer
-abbrev pub at : ℤ → RowAnswer
-at r = Row (record { row = r })
+abbrev pub at : ℤ → Option ℤ
+at r = Some r
 
 from_means : (s : ℕ) (b : ℤ) (c l : ℕ) (r : ℤ) → means s b c l r ≡ true → (letter_of s r ≡ l) × (allowed b c r ≡ true)
 from_means s b c l r e =
@@ -70,29 +68,29 @@ module _ (b : ℤ) (c : ℕ) where
         185 (negsuc 89) (omega arith) (omega arith)
 
     -- and what is answered is such a row
-    pub answered : (x : FoundRow) → resolve s b c l ≡ Row x → (allowed b c x.row ≡ true) × (letter_of s x.row ≡ l)
+    pub answered : (x : ℤ) → resolve s b c l ≡ Some x → (allowed b c x ≡ true) × (letter_of s x ≡ l)
     unfolding resolve
     answered x e =
-        let t = from_means s b c l x.row (first_sound (means s b c l) (negsuc 89) 185 x e) in
+        let t = from_means s b c l x (first_sound (means s b c l) (negsuc 89) 185 x e) in
         (t.1, t.0)
 
     -- so a row is the answer exactly if it is allowed and has the letter
     pub exactly : (r : ℤ) → (resolve s b c l ≡ at r) ↔ ((allowed b c r ≡ true) × (letter_of s r ≡ l))
-    exactly r = (answered (record { row = r }), λ h. found r h.0 h.1)
+    exactly r = (answered r, λ h. found r h.0 h.1)
 
     -- no answer: no allowed row has the letter
-    pub unanswered : resolve s b c l ≡ Nothing → (r : ℤ) → allowed b c r ≡ true → letter_of s r ≡ l → ⊥
+    pub unanswered : resolve s b c l ≡ None → (r : ℤ) → allowed b c r ≡ true → letter_of s r ≡ l → ⊥
     unanswered n r a e =
         let k = sym (found r a e) ∙ n in
         clash (cc)
 
     -- nor is there one, then there is no answer
-    pub nothing : ((r : ℤ) → allowed b c r ≡ true → letter_of s r ≡ l → ⊥) → resolve s b c l ≡ Nothing
+    pub nothing : ((r : ℤ) → allowed b c r ≡ true → letter_of s r ≡ l → ⊥) → resolve s b c l ≡ None
     unfolding resolve
     nothing h = first_none (means s b c l) (λ q m. let t = from_means s b c l q m in h q t.1 t.0) (negsuc 89) 185
 
     -- twenty and more is no letter's place
-    pub no_letter : 20 ≤ l → resolve s b c l ≡ Nothing
+    pub no_letter : 20 ≤ l → resolve s b c l ≡ None
     no_letter h = nothing (λ r a e. let k = letter_lt s r in omega arith)
 
     -- a letter at a shift is another one in an odd zone
@@ -105,7 +103,7 @@ module _ (b : ℤ) (c : ℕ) where
     pub taken : allowed b c (candidate b l) ≡ true → resolve 0 b c l ≡ at (candidate b l)
     taken a = found 0 l (candidate b l) a (candidate_is b l h).letter
 
-    pub not_taken : allowed b c (candidate b l) ≡ false → resolve 0 b c l ≡ Nothing
+    pub not_taken : allowed b c (candidate b l) ≡ false → resolve 0 b c l ≡ None
     not_taken a =
         nothing 0 l
         (λ r ar e.

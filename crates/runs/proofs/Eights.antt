@@ -3,22 +3,21 @@ use mathlib.Core.Path.{◌≡◌, refl, sym, ap, ◌∙◌}
 use mathlib.Core.Bool.{true}
 use mathlib.Core.List.{List, [], ◌∷◌}
 use Prim.Native.Nat.{ℕ, zero, suc, ◌+◌, ◌-◌, ◌*◌, ◌/◌, ◌%◌, ◌^◌, ◌≤◌, ◌<◌}
-use native.Mathlib.Nat.{pow-suc, pow-succ', mul_assoc, mod-eq_of_lt, mul-add-mod_self_right, mul-add-div_right, div-eq_of_lt, zero-add, add-zero, add-mul}
+use native.Mathlib.Nat.{div-one, pow-suc, pow-succ', mul_assoc, mod-eq_of_lt, mul-add-mod_self_right, mul-add-div_right, div-eq_of_lt, zero-add, add-zero, add-mul}
 use native.Mathlib.Omega.{arith}
 use lib.Bits.{bit_and, and_block, and_mask, and_zero_l}
 use lib.Dec.{lit<}
 use lib.ListN.{length, get_or, take, drop, length-take, length-drop}
-use lib.Seq.{take_all, take-take, take-add}
+use lib.Seq.{take-add, drop-drop, take_all, take-take}
 use Rattle.whole.proofs.Table.{alike}
 use Rattle.whole.proofs.Powers.{ten_le}
 use Rattle.words.specs.Bytes.{is_digit, all_digits}
 use Rattle.runs.specs.Runs.{value_from, value_of}
-use Rattle.words.specs.Words.{word_of}
+use Rattle.words.specs.Words.{word_of, first_word}
 use Rattle.words.specs.inner.Flags.{repeated}
 use Rattle.runs.specs.inner.Eight.{eight_of}
-use Rattle.words.proofs.Laws.{digit_range, digit_at, all_head, all_tail, all_front, all_rest}
+use Rattle.words.proofs.Laws.{word_eight, digit_range, digit_at, all_head, all_tail, all_front, all_part}
 use Rattle.runs.proofs.Laws.{number_lt}
-use Rattle.words.proofs.High.{drop_take}
 use Rattle.words.proofs.Words.{eight_are}
 use Rattle.runs.proofs.Decimals.{value_append}
 
@@ -94,7 +93,7 @@ nine ds t i h = omega (arith, digit_range (get_or ds i 0) (digit_at ds i t h))
 pub eight_is : (ds : List ℕ) → length ds ≡ 8 → all_digits ds ≡ true → eight_of (off_of ds) ≡ value_of ds
 unfolding off_of value_from
 eight_is ds l t =
-    let e = sym (take_all 8 ds (omega arith)) ∙ eight_are ds 0 (omega arith) in
+    let e = eight_are ds l in
     ap (λ (x : List ℕ). eight_of (off_of x)) e
     ∙ eight_values _ _ _ _ _ _ _ _ (nine ds t 0 (omega arith)) (nine ds t 1 (omega arith)) (nine ds t 2 (omega arith)) (nine ds t 3 (omega arith)) (nine ds t 4 (omega arith)) (nine ds t 5 (omega arith)) (nine ds t 6 (omega arith)) (nine ds t 7 (omega arith)) _ refl
     ∙ ap value_of (sym e)
@@ -141,16 +140,19 @@ off_split zero ds = omega arith
 off_split (suc n) [] = omega arith
 off_split (suc n) (d ∷ ds) = rw (pow-suc 256 n, ← mul_assoc (off_of (drop n ds)) (256 ^ n) 256) (omega (arith, off_split n ds))
 
--- shifted up, and what passes the end is lost; shifted down and up again
+-- shifted up, and what passes the end is lost; shifted down
 up : (d t u v : ℕ) → t * v < u * v → (d * u + t) * v % (u * v) ≡ t * v
 up d t u v h = rw (add-mul (d * u) t v, mul_assoc d u v, mul-add-mod_self_right d (u * v) (t * v)) (mod-eq_of_lt h)
 
-down_up : (d t v w : ℕ) → 0 < v → t < v → d * v < w → (d * v + t) / v * v % w ≡ d * v
-down_up d t v w p h k = rw (mul-add-div_right p d t, div-eq_of_lt h, add-zero d) (mod-eq_of_lt k)
+down : (d t v : ℕ) → 0 < v → t < v → (d * v + t) / v ≡ d
+down d t v p h = rw (mul-add-div_right p d t, div-eq_of_lt h, add-zero d)
 
--- the bits of the bytes that n leave of eight
-bits : (n : ℕ) → n ≤ 8 → 2 ^ (64 - 8 * n) ≡ 256 ^ (8 - n)
-bits n h = alike (λ n. 2 ^ (64 - 8 * n)) (λ n. 256 ^ (8 - n)) 9 refl 0 n (omega arith)
+-- the bits of so many bytes, and of those that they leave of eight
+bits : (n : ℕ) → n ≤ 8 → 2 ^ (8 * n) ≡ 256 ^ n
+bits n h = alike (λ n. 2 ^ (8 * n)) (λ n. 256 ^ n) 9 refl 0 n (omega arith)
+
+bits_left : (n : ℕ) → n ≤ 8 → 2 ^ (64 - 8 * n) ≡ 256 ^ (8 - n)
+bits_left n h = alike (λ n. 2 ^ (64 - 8 * n)) (λ n. 256 ^ (8 - n)) 9 refl 0 n (omega arith)
 
 whole : (n : ℕ) → n ≤ 8 → 256 ^ n * 256 ^ (8 - n) ≡ 18446744073709551616
 whole n h = alike (λ n. 256 ^ n * 256 ^ (8 - n)) (λ n. 18446744073709551616) 9 refl 0 n (omega arith)
@@ -166,46 +168,49 @@ module _ (es : List ℕ) (j : ℕ) (k : j + length es ≡ 8) (a : all_digits es 
   padded_is : eight_of (off_of es * 256 ^ j) ≡ value_of es
   padded_is = rw (padded_off j es, padded_value j es) at (eight_is (padded j es) (padded_length j es ∙ k) (padded_all j es a))
 
--- the first or the last n of eight digits, from their bytes' number w
+-- n of eight digits from the place i on
+off_word : (ds : List ℕ) → length ds ≡ 8 → all_digits ds ≡ true → first_word ds ≡ off_of ds + 3472328296227680304
+off_word ds l t = word_eight ds l ∙ sym (rw l at (off_is ds t))
+
+pub above : (ds : List ℕ) → length ds ≡ 8 → all_digits ds ≡ true → 3472328296227680304 ≤ first_word ds
+above ds l t = omega (arith, off_word ds l t)
+
+module _ (ds : List ℕ) (i n : ℕ) (l : length ds ≡ 8) (t : all_digits ds ≡ true) (h : i + n ≤ 8) where
+  shifted_down : (first_word ds - 3472328296227680304) / 2 ^ (8 * i) ≡ off_of (drop i ds)
+  shifted_down =
+      let less : first_word ds - 3472328296227680304 ≡ off_of ds = omega (arith, off_word ds l t) in
+      let k : length (take i ds) ≡ i = simp length-take (omega arith) in
+      let lt : off_of (take i ds) < 256 ^ i = rw k at (off_lt (take i ds) (all_front ds i t)) in
+      rw (less, bits i (omega arith), off_split i ds) (down _ _ _ (omega (arith, lt)) lt)
+
+  part_long : (8 - n) + length (take n (drop i ds)) ≡ 8
+  part_long = simp (length-take, length-drop) (omega arith)
+
+  shifted : (first_word ds - 3472328296227680304) / 2 ^ (8 * i) * 2 ^ (64 - 8 * n) % 18446744073709551616 ≡ off_of (take n (drop i ds)) * 256 ^ (8 - n)
+  shifted =
+      let m = whole n (omega arith) in
+      let lt : off_of (take n (drop i ds)) * 256 ^ (8 - n) < 256 ^ n * 256 ^ (8 - n) = rw m (padded_lt _ _ part_long (all_part ds i n t)) in
+      rw (shifted_down, bits_left n (omega arith), off_split n (drop i ds))
+      (rw m at (up (off_of (drop n (drop i ds))) (off_of (take n (drop i ds))) (256 ^ n) (256 ^ (8 - n)) lt))
+
+  pub part_le : (first_word ds - 3472328296227680304) / 2 ^ (8 * i) * 2 ^ (64 - 8 * n) % 18446744073709551616 ≤ 651061555542690057
+  part_le = rw shifted (padded_le _ _ part_long (all_part ds i n t))
+
+  pub part_is : eight_of ((first_word ds - 3472328296227680304) / 2 ^ (8 * i) * 2 ^ (64 - 8 * n) % 18446744073709551616) ≡ value_of (take n (drop i ds))
+  part_is = rw shifted (padded_is _ _ part_long (all_part ds i n t))
+
+pub ruleset parts = (above, part_le, part_is)
+
+-- so the first or the last n of eight digits, from their bytes' number w
 module _ (ds : List ℕ) (n w : ℕ) (l : length ds ≡ 8) (t : all_digits ds ≡ true) (h : n ≤ 8) (e : w ≡ word_of ds) where
-  off_word : w ≡ off_of ds + 3472328296227680304
-  off_word = e ∙ sym (rw l at (off_is ds t))
-
-  pub above : 3472328296227680304 ≤ w
-  above = omega (arith, off_word)
-
-  less : w - 3472328296227680304 ≡ off_of ds
-  less = omega (arith, off_word)
-
-  firsts : (8 - n) + length (take n ds) ≡ 8
-  firsts = simp length-take (omega arith)
-
-  first_shift : (w - 3472328296227680304) * 2 ^ (64 - 8 * n) % 18446744073709551616 ≡ off_of (take n ds) * 256 ^ (8 - n)
-  first_shift =
-      let m = whole n h in
-      let lt : off_of (take n ds) * 256 ^ (8 - n) < 256 ^ n * 256 ^ (8 - n) = rw m (padded_lt _ _ firsts (all_front ds n t)) in
-      rw (less, bits n h, off_split n ds) (rw m at (up (off_of (drop n ds)) (off_of (take n ds)) (256 ^ n) (256 ^ (8 - n)) lt))
-
-  pub first_le : (w - 3472328296227680304) * 2 ^ (64 - 8 * n) % 18446744073709551616 ≤ 651061555542690057
-  first_le = rw first_shift (padded_le _ _ firsts (all_front ds n t))
-
   pub first_is : eight_of ((w - 3472328296227680304) * 2 ^ (64 - 8 * n) % 18446744073709551616) ≡ value_of (take n ds)
-  first_is = rw first_shift (padded_is _ _ firsts (all_front ds n t))
-
-  lasts : (8 - n) + length (drop (8 - n) ds) ≡ 8
-  lasts = simp length-drop (omega arith)
-
-  last_shift : (w - 3472328296227680304) / 2 ^ (64 - 8 * n) * 2 ^ (64 - 8 * n) % 18446744073709551616 ≡ off_of (drop (8 - n) ds) * 256 ^ (8 - n)
-  last_shift =
-      let k : length (take (8 - n) ds) ≡ 8 - n = simp length-take (omega arith) in
-      let lt : off_of (take (8 - n) ds) < 256 ^ (8 - n) = rw k at (off_lt (take (8 - n) ds) (all_front ds (8 - n) t)) in
-      rw (less, bits n h, off_split (8 - n) ds) (down_up _ _ _ 18446744073709551616 (omega (arith, lt)) lt (padded_lt _ _ lasts (all_rest ds (8 - n) t)))
-
-  pub last_le : (w - 3472328296227680304) / 2 ^ (64 - 8 * n) * 2 ^ (64 - 8 * n) % 18446744073709551616 ≤ 651061555542690057
-  last_le = rw last_shift (padded_le _ _ lasts (all_rest ds (8 - n) t))
+  first_is = rw (e ∙ sym (word_eight ds l)) (rw div-one at (part_is ds 0 n l t (omega arith)))
 
   pub last_is : eight_of ((w - 3472328296227680304) / 2 ^ (64 - 8 * n) * 2 ^ (64 - 8 * n) % 18446744073709551616) ≡ value_of (drop (8 - n) ds)
-  last_is = rw last_shift (padded_is _ _ lasts (all_rest ds (8 - n) t))
+  last_is =
+      let i : 8 * (8 - n) ≡ 64 - 8 * n = omega arith in
+      let a : take n (drop (8 - n) ds) ≡ drop (8 - n) ds = take_all n (drop (8 - n) ds) (omega (arith, length-drop (8 - n) ds)) in
+      rw (e ∙ sym (word_eight ds l)) (rw (i, a) at (part_is ds (8 - n) n l t (omega arith)))
 
 -- ---- more than eight
 
@@ -216,19 +221,37 @@ value_after (d ∷ ds) a =
     rw (value_after ds (a * 10 + (d - 48)), value_after ds (0 * 10 + (d - 48)), pow-succ' 10 (length ds), ← mul_assoc a 10 (10 ^ length ds), add-mul (a * 10) (d - 48) (10 ^ length ds)) (omega arith)
 
 module _ (s : List ℕ) (n : ℕ) (h : n + 8 ≤ length s) (m : n ≤ 3) (t : all_digits (take (n + 8) s) ≡ true) where
-  pub long_first : all_digits (take 8 s) ≡ true
-  long_first = rw (take-take 8 (n + 8) s (omega arith)) at (all_front (take (n + 8) s) 8 t)
-
-  pub long_last : all_digits (take 8 (drop n s)) ≡ true
-  long_last = rw (drop_take n 8 s) at (all_rest (take (n + 8) s) n t)
-
   pub long_is : value_of (take n (take 8 s)) * 100000000 + value_of (take 8 (take 8 (drop n s))) ≡ value_of (take (n + 8) s)
   long_is =
       let k : length (take 8 (drop n s)) ≡ 8 = simp (length-take, length-drop) (omega arith) in
       rw
       (take-take n 8 s (omega arith), take-take 8 8 (drop n s) (omega arith), take-add n 8 s, value_append (take n s) (take 8 (drop n s)) 0, value_after (take 8 (drop n s)) (value_of (take n s)), k)
 
-  pub long_lt : value_of (take n (take 8 s)) * 100000000 + value_of (take 8 (take 8 (drop n s))) < 100000000000
-  long_lt =
-      let k : length (take (n + 8) s) ≡ n + 8 = simp length-take (omega arith) in
-      rw long_is (omega (arith, rw k at (number_lt (take (n + 8) s) t), ten_le (n + 8) (omega arith)))
+-- of nine to eleven digits, and they never wrap
+module _ (s : List ℕ) (h : 8 < length s) (m : length s ≤ 11) (t : all_digits s ≡ true) where
+  pub all_long_is : value_of (take (length s - 8) (take 8 s)) * 100000000 + value_of (take 8 (take 8 (drop (length s - 8) s))) ≡ value_of s
+  all_long_is =
+      let n = length s - 8 in
+      let a : take (n + 8) s ≡ s = take_all (n + 8) s (omega arith) in
+      rw a at (long_is s n (omega arith) (omega arith) (all_front s (n + 8) t))
+
+  pub all_long_lt : value_of (take (length s - 8) (take 8 s)) * 100000000 + value_of (take 8 (take 8 (drop (length s - 8) s))) < 100000000000
+  all_long_lt = rw all_long_is (omega (arith, number_lt s t, ten_le (length s) m))
+
+pub ruleset longs = (all_long_is, all_long_lt)
+
+-- the first n and the last n of twice n, of the first eight and the last eight where these are enough
+module _ (s : List ℕ) (n : ℕ) where
+  pub front : n ≤ 8 → take n (take 8 s) ≡ take n s
+  front h = take-take n 8 s h
+
+  module _ (e : length s ≡ n + n) where
+    pub back : take n (drop n s) ≡ drop n s
+    back = take_all n (drop n s) (omega (arith, length-drop n s))
+
+    pub overlapped : n ≤ 8 → 4 ≤ n → take n (drop (8 - n) (take 8 (drop (n + n - 8) s))) ≡ drop n s
+    overlapped h g =
+        let k : n + n - 8 + (8 - n) ≡ n = omega arith in
+        rw (take_all 8 (drop (n + n - 8) s) (omega (arith, length-drop (n + n - 8) s)), drop-drop (8 - n) (n + n - 8) s, k) back
+
+pub ruleset halves = (front, back, overlapped)

@@ -14,9 +14,9 @@ use Rattle.words.specs.Bytes.{all_digits}
 use Rattle.words.proofs.Laws.{and_left, and_right, all_split}
 use Rattle.runs.specs.Runs.{value_of}
 use Rattle.runs.specs.declared.Digits.{Digits}
-use Rattle.runs.specs.declared.DigitsAnswer.TheVariants.{Halves}
 use Rattle.runs.specs.Digits.{digits_of}
 use Rattle.runs.proofs.Laws.{number_lt}
+use Rattle.std.specs.Prelude.{Ok}
 
 -- n digits on each axis, 0 to 11
 pub record Halved (ds : List ℕ) (d : Digits) : Type 0 where
@@ -30,7 +30,7 @@ pub record Halved (ds : List ℕ) (d : Digits) : Type 0 where
   pub east_lt : d.easting < 10 ^ n
   pub north_lt : d.northing < 10 ^ n
 
-pub halved_by : (ds : List ℕ) (d : Digits) → digits_of ds ≡ Halves d → Halved ds d
+pub halved_by : (ds : List ℕ) (d : Digits) → digits_of ds ≡ Ok d → Halved ds d
 unfolding digits_of
 halved_by ds d e =
     let a = past (not (all_digits ds)) _ _ _ (λ n. clash (cc)) e in

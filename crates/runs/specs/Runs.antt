@@ -1,10 +1,8 @@
 -- Digits and the numbers that they spell: document 01, "Reading bytes". Assumes nothing.
-use Rattle.std.specs.Prelude.{cond, List, [], ◌∷◌, ◌++◌, ℕ, zero, suc, ◌+◌, ◌-◌, ◌*◌, ◌/◌, ◌%◌, ltb, length}
+use Rattle.std.specs.Prelude.{cond, List, [], ◌∷◌, ◌++◌, ℕ, zero, suc, ◌+◌, ◌-◌, ◌*◌, ◌/◌, ◌%◌, ltb, length, Option, Some, None}
 use Prim.Native.Char.{code}
 use Rattle.words.specs.Bytes.{is_digit}
 use Rattle.runs.specs.declared.Lead.{Lead}
-use Rattle.runs.specs.declared.ZoneLead.{ZoneLead}
-use Rattle.runs.specs.declared.ZoneLead.TheVariants.{Led, Past}
 
 -- The number a, followed by digits.
 unfoldable pub value_from : ℕ → List ℕ → ℕ
@@ -25,8 +23,8 @@ unfoldable pub lead_of : List ℕ → Lead
 lead_of s = record { count = length (leading_digits s); value = value_of (leading_digits s) }
 
 -- The same, or that the value is more than 60: "not 1..60" is told by that alone.
-unfoldable pub zone_lead : List ℕ → ZoneLead
-zone_lead s = cond (ltb 60 (lead_of s).value) Past (Led (lead_of s))
+unfoldable pub zone_lead : List ℕ → Option Lead
+zone_lead s = cond (ltb 60 (lead_of s).value) None (Some (lead_of s))
 
 -- The last n digits of a number, zeros in front where it has fewer.
 unfoldable pub last_digits : ℕ → ℕ → List ℕ

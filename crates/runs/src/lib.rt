@@ -2,13 +2,17 @@
 // any slice. That all are digits is seen before their numbers are worked out; of the digits that lead none past 60 is looked at.
 #![tactic(auto)]
 
-ghost use Rattle.std.specs.Prelude.{◌≡◌, true, ◌+◌, ◌-◌, ◌*◌, ◌≤◌, ◌<◌, length, take, drop};
+ghost use Rattle.std.specs.Prelude.{◌≡◌, true, ◌+◌, ◌-◌, ◌*◌, ◌≤◌, ◌<◌, pos, length, take, drop};
 ghost use Rattle.words.specs.Bytes.{is_digit, all_digits};
 ghost use Rattle.runs.specs.Runs.{value_of, zone_lead};
-ghost use Rattle.runs.specs.inner.Eight.{halves_of, eight_of};
+ghost use Rattle.runs.specs.inner.Eight.{eight_of};
 ghost use Rattle.runs.specs.Digits.{digits_of};
 
-// The number v followed by a digit. Eleven digits never wrap.
+use rules::Refusal;
+
+// The number v followed by a digit. Eleven digits never wrap. Kept: the library's parse takes text that is proved to be UTF-8, and tests
+// each digit again.
+#[tactic(auto, using(words::proofs::Laws::digit_range))]
 fn then_digit(v: u64, digit: u8) -> u64
     requires { (v < 100000000000) × (is_digit digit ≡ true) }
     ensures { result ≡ v * 10 + (digit - 48) }
@@ -23,33 +27,26 @@ pub struct Lead {
     pub value: u64,
 }
 
-// The digits that lead, or that their value is more than 60, which is past every zone.
-#[derive(Clone, Copy)]
-pub enum ZoneLead {
-    Led(Lead),
-    Past,
-}
-
-// No further digit mends a value of more than 60, so the pass stops there.
-pub fn zone_lead(s: &[u8]) -> ZoneLead
+// The digits that lead; none where their value is more than 60, which is past every zone: no further digit mends that, so the pass
+// stops there.
+#[tactic(auto, using(crate::proofs::Laws::leads), unfolding(crate::specs::Runs::value_from, crate::specs::Runs::lead_of, crate::specs::Runs::zone_lead))]
+pub fn zone_lead(s: &[u8]) -> Option<Lead>
     ensures { result ≡ zone_lead s.now }
 {
-    let mut count = 0;
     let mut value: u64 = 0;
-    while count < s.len() {
-        let b = s[count];
-        if !words::is_digit(b) {
-            return ZoneLead::Led(Lead { count, value });
+    for (count, b) in s.iter().enumerate() {
+        if !words::is_digit(*b) {
+            return Some(Lead { count, value });
         }
-        let next = then_digit(value, b);
+        let next = then_digit(value, *b);
         let past = 60 < next;
         if past {
-            return ZoneLead::Past;
+            return None;
         }
         value = next;
-        count += 1;
     }
-    ZoneLead::Led(Lead { count, value })
+    let count = s.len();
+    Some(Lead { count, value })
 }
 
 // ---- 11, 12, 13: the digits of both axes
@@ -62,15 +59,32 @@ pub struct Digits {
     pub northing: u64,
 }
 
+// A text of digits alone.
 #[derive(Clone, Copy)]
-pub enum DigitsAnswer {
-    Halves(Digits),
-    NoHalves(u64),
+struct Run<'a> {
+    bytes: &'a [u8],
+    ghost digits: { all_digits bytes.now ≡ true },
 }
 
-// Eight digits as one number, 48 off each byte: neighbours are joined by twos, fours and eights, each step for all of them.
+impl<'a> Run<'a> {
+    // So many of them, from a place on.
+    #[tactic(auto, using(words::proofs::Laws::all_part))]
+    fn part(self, from: usize, count: usize) -> Run<'a>
+        requires { from + count ≤ length self.bytes.now }
+        ensures { result.bytes.now ≡ take count (drop from self.entry.bytes.now) }
+    {
+        let end = from + count;
+        Run {
+            bytes: &self.bytes[from..end],
+        }
+    }
+}
+
+// Eight digits as one number, 48 off each byte: neighbours are joined by twos, fours and eights, each step for all of them. The library's
+// parse takes them one by one.
+#[tactic(auto, using(std::proofs::lemmas::Nat::and_le_r), unfolding(crate::specs::inner::Eight::eight_of))]
 fn eight_value(w: u64) -> u64
-    requires { w ≤ 651061555542690057 }
+    requires { w ≤ 0x0909090909090909 }
     ensures { result ≡ eight_of w }
 {
     let twos = (w * 10 + w / 0x100) & 0x00ff00ff00ff00ff;
@@ -81,77 +95,61 @@ fn eight_value(w: u64) -> u64
 // Eight zeros.
 const ZEROS: u64 = 0x3030303030303030;
 
-// The number of the first of eight digits: the others are shifted out, and zeros come in front.
-fn first_value(s: &[u8], i: usize, count: usize) -> u64
-    requires { (i + 8 ≤ length s.now) × (1 ≤ count) × (count ≤ 8) × (all_digits (take 8 (drop i s.now)) ≡ true) }
-    ensures { result ≡ value_of (take count (take 8 (drop i s.now))) }
+// The number of some of eight digits, from a place on: the others are shifted out, and zeros come in front.
+#[tactic(auto, using(crate::proofs::Eights::parts))]
+fn part_value(eight: Run<'_>, from: usize, count: usize) -> u64
+    requires { (length eight.bytes.now ≡ 8) × (from + count ≤ 8) × (1 ≤ count) }
+    ensures { result ≡ value_of (take count (drop from eight.entry.bytes.now)) }
 {
-    let k = 64 - 8 * count;
-    let end = i + 8;
-    eight_value((words::word(&s[i..end]) - ZEROS) << k)
+    let w = words::word(eight.bytes) - ZEROS;
+    eight_value((w >> (8 * from)) << (64 - 8 * count))
 }
 
-// The number of the last of eight digits: the others become zeros in front.
-fn last_value(s: &[u8], i: usize, count: usize) -> u64
-    requires { (i + 8 ≤ length s.now) × (1 ≤ count) × (count ≤ 8) × (all_digits (take 8 (drop i s.now)) ≡ true) }
-    ensures { result ≡ value_of (drop (8 - count) (take 8 (drop i s.now))) }
+// The number of up to three digits, one after the other.
+#[tactic(auto, using(crate::proofs::Laws::steps, words::proofs::Laws::digit_at), unfolding(crate::specs::Runs::value_from))]
+fn short_value(s: Run<'_>) -> u64
+    requires { length s.bytes.now ≤ 3 }
+    ensures { result ≡ value_of s.entry.bytes.now }
 {
-    let k = 64 - 8 * count;
-    let end = i + 8;
-    eight_value(((words::word(&s[i..end]) - ZEROS) >> k) << k)
-}
-
-// The two halves, in step: neither number waits for the other.
-fn halves_of(a: &[u8], b: &[u8]) -> Digits
-    requires { (length a.now ≡ length b.now) × (length a.now ≤ 11) × (all_digits a.now ≡ true) × (all_digits b.now ≡ true) }
-    ensures { result ≡ halves_of a.now b.now }
-{
-    let mut easting: u64 = 0;
-    let mut northing: u64 = 0;
-    let mut i = 0;
-    while i < a.len() {
-        easting = then_digit(easting, a[i]);
-        northing = then_digit(northing, b[i]);
-        i += 1;
+    let mut value = 0;
+    for digit in s.bytes {
+        value = then_digit(value, *digit);
     }
-    let p = a.len() as i64;
-    Digits {
-        p,
-        easting,
-        northing,
-    }
+    value
 }
 
 // The number of one to three digits and eight more.
-fn long_value(s: &[u8], i: usize, more: usize) -> u64
-    requires { (i + (more + 8) ≤ length s.now) × (1 ≤ more) × (more ≤ 3) × (all_digits (take (more + 8) (drop i s.now)) ≡ true) }
-    ensures { result ≡ value_of (take (more + 8) (drop i s.now)) }
+#[tactic(auto, using(crate::proofs::Eights::longs))]
+fn long_value(s: Run<'_>) -> u64
+    requires { (8 < length s.bytes.now) × (length s.bytes.now ≤ 11) }
+    ensures { result ≡ value_of s.entry.bytes.now }
 {
-    let front = first_value(s, i, more);
-    let back = first_value(s, i + more, 8);
+    let more = s.bytes.len() - 8;
+    let front = part_value(s.part(0, 8), 0, more);
+    let back = part_value(s.part(more, 8), 0, 8);
     front * 100_000_000 + back
 }
 
 // The two halves of digits, eight at a time but where there are fewer in all.
-fn two_halves(s: &[u8], half: usize) -> Digits
-    requires { (length s.now ≡ half + half) × (half ≤ 11) × (all_digits s.now ≡ true) }
-    ensures { result ≡ halves_of (take half s.now) (drop half s.now) }
+#[tactic(auto, using(crate::proofs::Eights::halves))]
+fn two_halves(s: Run<'_>, half: usize) -> Digits
+    requires { (length s.bytes.now ≡ half + half) × (half ≤ 11) }
+    ensures p { result.p ≡ pos half }
+    ensures easting { result.easting ≡ value_of (take half s.entry.bytes.now) }
+    ensures northing { result.northing ≡ value_of (drop half s.entry.bytes.now) }
 {
-    if half < 4 {
-        return halves_of(&s[..half], &s[half..]);
-    }
+    let (easting, northing) = match half {
+        0..=3 => (
+            short_value(s.part(0, half)),
+            short_value(s.part(half, half)),
+        ),
+        4..=8 => (
+            part_value(s.part(0, 8), 0, half),
+            part_value(s.part(half + half - 8, 8), 8 - half, half),
+        ),
+        _ => (long_value(s.part(0, half)), long_value(s.part(half, half))),
+    };
     let p = half as i64;
-    if 8 < half {
-        let easting = long_value(s, 0, half - 8);
-        let northing = long_value(s, half, half - 8);
-        return Digits {
-            p,
-            easting,
-            northing,
-        };
-    }
-    let easting = first_value(s, 0, half);
-    let northing = last_value(s, half + half - 8, half);
     Digits {
         p,
         easting,
@@ -161,18 +159,19 @@ fn two_halves(s: &[u8], half: usize) -> Digits
 
 // What follows the row letter: digits that halve, or the rule by which they do not. That all are digits is seen first, many at
 // a time, so that no number is worked out of a text that is refused.
-pub fn digits_of(s: &[u8]) -> DigitsAnswer
+#[tactic(auto, unfolding(crate::specs::Digits::digits_of))]
+pub fn digits_of(s: &[u8]) -> Result<Digits, Refusal>
     ensures { result ≡ digits_of s.now }
 {
     if !words::all_digits(s) {
-        return DigitsAnswer::NoHalves(11);
+        return Err(Refusal::NoDigit);
     }
     let n = s.len();
     if n % 2 == 1 {
-        return DigitsAnswer::NoHalves(12);
+        return Err(Refusal::OddDigits);
     }
     if 22 < n {
-        return DigitsAnswer::NoHalves(13);
+        return Err(Refusal::ManyDigits);
     }
-    DigitsAnswer::Halves(two_halves(s, n / 2))
+    Ok(two_halves(Run { bytes: s }, n / 2))
 }

@@ -1,5 +1,6 @@
 // Words and numbers put together in a buffer, for the programs to write out. Each call that puts something answers where the next
 // byte goes; what has no room is not put at all.
+// Kept: a place stands beside the buffer, since the clauses of `put` and `put_count`, which are public (docs/PROMISES.md), speak of it.
 #![tactic(auto)]
 
 ghost use Rattle.std.specs.Prelude.{◌≡◌, take};
@@ -9,25 +10,19 @@ ghost use Rattle.say.specs.Put.{put_end, put_leaves, count_text};
 pub fn front(s: &[u8], n: usize) -> &[u8]
     ensures { result.now ≡ take n s.now }
 {
-    if n <= s.len() {
-        return &s[..n];
-    }
-    s
+    s.get(..n).unwrap_or(s)
 }
 
 // The whole text at a place.
 pub fn put(out: &mut [u8], at: usize, text: &[u8]) -> usize
     ensures { (result ≡ put_end at text.now out.old) × (out.new ≡ put_leaves at text.now out.old) }
 {
-    if out.len() < at {
-        return at;
+    if at <= out.len() && text.len() <= out.len() - at {
+        let end = at + text.len();
+        out[at..end].copy_from_slice(text);
+        return end;
     }
-    if out.len() - at < text.len() {
-        return at;
-    }
-    let end = at + text.len();
-    out[at..end].copy_from_slice(text);
-    end
+    at
 }
 
 // A space and a number.

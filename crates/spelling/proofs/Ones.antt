@@ -8,7 +8,6 @@ use native.Mathlib.Omega.{arith}
 use lib.Bits.{bit_and, and_block, and_mask, and_zero_l}
 use lib.Dec.{lit<}
 use lib.ListN.{length, get_or}
-use lib.Seq.{take_all}
 use Rattle.words.specs.Bytes.{all_digits}
 use Rattle.runs.specs.Runs.{value_from, value_of, last_digits}
 use Rattle.words.specs.Words.{word_of}
@@ -81,7 +80,7 @@ pub record Digits (x w : ℕ) : Type 0 where
 eight_of_lem : (ds : List ℕ) → length ds ≡ 8 → all_digits ds ≡ true → Digits (value_of ds) (word_of ds)
 unfolding value_from off_of
 eight_of_lem ds l t =
-    let e = sym (take_all 8 ds (omega arith)) ∙ eight_are ds 0 (omega arith) in
+    let e = eight_are ds l in
     record {
       a = get_or ds 0 0 - 48;
       b = get_or ds 1 0 - 48;
@@ -111,39 +110,46 @@ digits x =
     rw e at (eight_of_lem (last_digits 8 x) (digits_length 8 x) (digits_all 8 x))
 
 module _ (x w : ℕ) (q : Digits x w) where
-  pub fours_is : fours_of x ≡ (((q.e * 10 + q.f) * 100 + (q.g * 10 + q.h)) * 4294967296 + ((q.a * 10 + q.b) * 100 + (q.c * 10 + q.d)))
+  fours_is : fours_of x ≡ (((q.e * 10 + q.f) * 100 + (q.g * 10 + q.h)) * 4294967296 + ((q.a * 10 + q.b) * 100 + (q.c * 10 + q.d)))
   fours_is =
       let k : x / 10000 ≡ (q.a * 10 + q.b) * 100 + (q.c * 10 + q.d) = omega arith in
       let l : x % 10000 ≡ (q.e * 10 + q.f) * 100 + (q.g * 10 + q.h) = omega arith in
       omega arith
 
-  pub high_is : high_of x ≡ (q.e * 10 + q.f) * 4294967296 + (q.a * 10 + q.b)
+  high_is : high_of x ≡ (q.e * 10 + q.f) * 4294967296 + (q.a * 10 + q.b)
   high_is = hundreds (q.a * 10 + q.b) (q.c * 10 + q.d) (q.e * 10 + q.f) (q.g * 10 + q.h) (omega arith) (omega arith) (omega arith) (omega arith) (fours_of x) fours_is
 
-  pub twos_is : twos_of x ≡ (((q.g * 10 + q.h) * 65536 + (q.e * 10 + q.f)) * 65536 + (q.c * 10 + q.d)) * 65536 + (q.a * 10 + q.b)
+  twos_is : twos_of x ≡ (((q.g * 10 + q.h) * 65536 + (q.e * 10 + q.f)) * 65536 + (q.c * 10 + q.d)) * 65536 + (q.a * 10 + q.b)
   twos_is = rw (high_is, fours_is) (omega arith)
 
-  pub tens_is : tens_of x ≡ ((q.g * 65536 + q.e) * 65536 + q.c) * 65536 + q.a
+  tens_is : tens_of x ≡ ((q.g * 65536 + q.e) * 65536 + q.c) * 65536 + q.a
   tens_is = tens q.a q.b q.c q.d q.e q.f q.g q.h q.la q.lb q.lc q.ld q.le q.lf q.lg q.lh (twos_of x) twos_is
 
   pub ones_is : tens_of x + (twos_of x - tens_of x * 10) * 256 + 3472328296227680304 ≡ w
   ones_is = rw (tens_is, twos_is) (omega arith)
 
-  -- so nothing wraps
-  pub fours_lt : fours_of x < 42949672960000
-  fours_lt = rw fours_is (omega arith)
+-- so of any number the steps make its last eight digits, and nothing wraps
+module _ (x : ℕ) where
+  pub spelled_is : tens_of (x % 100000000) + (twos_of (x % 100000000) - tens_of (x % 100000000) * 10) * 256 + 3472328296227680304 ≡ word_of (last_digits 8 x)
+  spelled_is = ones_is (x % 100000000) _ (digits x)
 
-  pub high_le : high_of x * 100 ≤ fours_of x
-  high_le = rw (high_is, fours_is) (omega arith)
+  pub fours_lt : fours_of (x % 100000000) < 42949672960000
+  fours_lt = let q = digits x in rw (fours_is _ _ q) (omega arith)
 
-  pub twos_lt : twos_of x < 28147497671065600
-  twos_lt = rw twos_is (omega arith)
+  pub high_le : high_of (x % 100000000) * 100 ≤ fours_of (x % 100000000)
+  high_le = let q = digits x in rw (high_is _ _ q, fours_is _ _ q) (omega arith)
 
-  pub tens_lt : tens_of x < 2814749767106560
-  tens_lt = rw tens_is (omega arith)
+  pub twos_lt : twos_of (x % 100000000) < 28147497671065600
+  twos_lt = let q = digits x in rw (twos_is _ _ q) (omega arith)
 
-  pub rest_lt : twos_of x - tens_of x * 10 < 2814749767106560
-  rest_lt = rw (tens_is, twos_is) (omega arith)
+  pub tens_lt : tens_of (x % 100000000) < 2814749767106560
+  tens_lt = let q = digits x in rw (tens_is _ _ q) (omega arith)
 
-  pub tens_le : tens_of x * 10 ≤ twos_of x
-  tens_le = rw (tens_is, twos_is) (omega arith)
+  pub tens_le : tens_of (x % 100000000) * 10 ≤ twos_of (x % 100000000)
+  tens_le = let q = digits x in rw (tens_is _ _ q, twos_is _ _ q) (omega arith)
+
+  pub rest_lt : twos_of (x % 100000000) - tens_of (x % 100000000) * 10 < 2814749767106560
+  rest_lt = let q = digits x in rw (tens_is _ _ q, twos_is _ _ q) (omega arith)
+
+-- what each step of the code asks
+pub ruleset steps = (spelled_is, fours_lt, high_le, twos_lt, tens_lt, tens_le, rest_lt)

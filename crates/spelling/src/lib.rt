@@ -1,4 +1,4 @@
-// Digits to be written, eight at a time.
+// Digits to be written, eight at a time. Kept: the library prints a number by a writer, digit by digit, and with no zeros in front.
 #![tactic(auto)]
 
 ghost use Rattle.std.specs.Prelude.{◌≡◌};
@@ -7,6 +7,7 @@ ghost use Rattle.words.specs.Words.{word_of};
 
 // The last eight digits of a number, zeros in front, as one number of eight bytes, the first the lowest: parted by fours, twos and
 // ones, each step for all of them. A product by 10,486 and a shift is a division by 100 below 10,000; by 103, one by 10 below 100.
+#[tactic(auto, using(crate::proofs::Ones::steps))]
 pub fn spelled(x: u64) -> u64
     ensures { result ≡ word_of (last_digits 8 x) }
 {

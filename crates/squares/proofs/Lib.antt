@@ -1,3 +1,2 @@
 mod Sizes
-mod Answers
 pub mod Unique

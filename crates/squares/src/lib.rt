@@ -1,133 +1,98 @@
 // References and their squares: a reference at fewer digits, and whether one reference covers another.
 #![tactic(auto)]
 
-ghost use Rattle.std.specs.Prelude.{◌≡◌, true, ◌&&◌, eqb, length};
-ghost use Rattle.whole.specs.Compare.{same};
+ghost use Rattle.std.specs.Prelude.{◌≡◌, true, ◌&&◌, length, Ok};
 ghost use Rattle.position.specs.inner.Counts.{exact};
-ghost use Rattle.reader.specs.declared.Answer.TheVariants.{Square};
+ghost use Rattle.reader.specs.declared.Reading.TheVariants.{Square};
 ghost use Rattle.squares.specs.Shorten.{shortened, short_left, short_of, short_leaves};
-ghost use Rattle.squares.specs.Covers.{same_area, axis_within, square_within, covers_if, covers_of};
+ghost use Rattle.squares.specs.Covers.{same_area, axis_within, square_within, covers_of};
 
 use position::Position;
-use reader::Answer;
-use writer::Written;
+use reader::Reading;
+use rules::Refusal;
 
 // ---- shortening
 
 // The corner of a square that was read, at q digits.
 #[tactic(auto, unfolding(crate::specs::Shorten::corner_written, crate::specs::Shorten::corner_leaves, position::specs::Squares::south_west))]
-fn shorten_square(x: Position, q: i64, out: &mut [u8]) -> Written
-    ensures { (result ≡ shortened (Square x) q (length out.old)) × (out.new ≡ short_left (Square x) q out.old) }
+fn shorten_square(x: Position, q: i64, out: &mut [u8]) -> Result<usize, Refusal>
+    ensures { (result ≡ shortened (Ok (Square x)) q (length out.old)) × (out.new ≡ short_left (Ok (Square x)) q out.old) }
 {
     if whole::is_outside(0, x.p, q) {
-        return Written::Refused(21);
+        return Err(Refusal::NotShortened);
     }
     let corner = position::south_west(x);
-    writer::write(
-        corner.zone,
-        corner.north,
-        corner.band,
-        q,
-        corner.easting,
-        corner.northing,
-        out,
-    )
+    writer::write(Position { p: q, ..corner }, out)
 }
 
 // Writes a reference at q digits, at the buffer's front.
-pub fn shorten(text: &[u8], q: i64, out: &mut [u8]) -> Written
+#[tactic(auto, unfolding(crate::specs::Shorten::short_of, crate::specs::Shorten::short_leaves))]
+pub fn shorten(text: &[u8], q: i64, out: &mut [u8]) -> Result<usize, Refusal>
     ensures { (result ≡ short_of text.now q (length out.old)) × (out.new ≡ short_leaves text.now q out.old) }
 {
-    match reader::read(text) {
-        Answer::Refused(k) => Written::Refused(k),
-        Answer::Bare(_) => Written::Refused(21),
-        Answer::Square(x) => shorten_square(x, q, out),
+    match reader::read(text)? {
+        Reading::Bare(_) => Err(Refusal::NotShortened),
+        Reading::Square(x) => shorten_square(x, q, out),
     }
 }
 
 // ---- covering
 
-// Whether the first reference covers the second, or the rule by which one of them is turned away.
+// A square that was read: its centre is near enough that no edge is beyond the ends of 64 bits.
 #[derive(Clone, Copy)]
-pub enum Covering {
-    Covers,
-    DoesNot,
-    Refused(u64),
+struct NearSquare {
+    position: Position,
+    ghost east_exact: { exact position.easting ≡ true },
+    ghost north_exact: { exact position.northing ≡ true },
 }
 
-fn is_same(zone: i64, band: u8, other: i64, letter: u8) -> bool
-    ensures { result ≡ (same zone other && eqb band letter) }
-{
-    if zone == other {
-        return band == letter;
-    }
-    false
-}
-
+#[tactic(auto, unfolding(crate::specs::Covers::same_area, whole::specs::Compare::same))]
 fn is_same_area(a: Position, b: Position) -> bool
     ensures { result ≡ same_area a b }
 {
-    is_same(a.zone, a.band, b.zone, b.band)
+    a.zone == b.zone && a.band == b.band
 }
 
-// On one axis; every centre that is read is far from the ends of 64 bits.
+// On one axis. Kept: a p and a centre as two numbers, as `position::corner_of` takes them.
+#[tactic(auto, unfolding(crate::specs::Covers::axis_within), using(crate::proofs::Sizes::side_le))]
 fn is_axis_within(p: i64, c: i64, r: i64, d: i64) -> bool
     requires { (exact c ≡ true) × (exact d ≡ true) }
     ensures { result ≡ axis_within p c r d }
 {
     let outer = position::corner_of(p, c);
     let inner = position::corner_of(r, d);
-    if outer <= inner {
-        return inner + position::side_length(r) as i64 <= outer + position::side_length(p) as i64;
-    }
-    false
+    outer <= inner
+        && inner + position::side_length(r) as i64 <= outer + position::side_length(p) as i64
 }
 
-fn is_square_within(a: Position, b: Position) -> bool
-    requires { (exact a.easting ≡ true) × (exact a.northing ≡ true) × (exact b.easting ≡ true) × (exact b.northing ≡ true) }
-    ensures { result ≡ square_within a b }
+#[tactic(auto, unfolding(crate::specs::Covers::square_within))]
+fn is_square_within(a: NearSquare, b: NearSquare) -> bool
+    ensures { result ≡ square_within a.position b.position }
 {
-    if is_axis_within(a.p, a.easting, b.p, b.easting) {
-        return is_axis_within(a.p, a.northing, b.p, b.northing);
-    }
-    false
+    let (x, y) = (a.position, b.position);
+    is_axis_within(x.p, x.easting, y.p, y.easting)
+        && is_axis_within(x.p, x.northing, y.p, y.northing)
 }
 
-// Of two squares that were read.
-fn is_covering(a: Position, b: Position) -> bool
-    requires { (exact a.easting ≡ true) × (exact a.northing ≡ true) × (exact b.easting ≡ true) × (exact b.northing ≡ true) }
-    ensures { result ≡ (same_area a b && square_within a b) }
+fn is_covering(a: NearSquare, b: NearSquare) -> bool
+    ensures { result ≡ (same_area a.position b.position && square_within a.position b.position) }
 {
-    if is_same_area(a, b) {
-        return is_square_within(a, b);
-    }
-    false
+    is_same_area(a.position, b.position) && is_square_within(a, b)
 }
 
-fn verdict_of(yes: bool) -> Covering
-    ensures { result ≡ covers_if yes }
-{
-    if yes {
-        return Covering::Covers;
-    }
-    Covering::DoesNot
-}
-
-// Whether the reference a covers the reference b.
-pub fn covers(a: &[u8], b: &[u8]) -> Covering
+// Whether the reference a covers the reference b. The first is read first.
+#[tactic(auto, unfolding(crate::specs::Covers::covers_of))]
+pub fn covers(a: &[u8], b: &[u8]) -> Result<bool, Refusal>
     ensures { result ≡ covers_of a.now b.now }
 {
-    match reader::read(a) {
-        Answer::Refused(k) => Covering::Refused(k),
-        Answer::Bare(x) => match reader::read(b) {
-            Answer::Refused(k) => Covering::Refused(k),
-            Answer::Bare(y) => verdict_of(is_same_area(x, y)),
-            Answer::Square(y) => verdict_of(is_same_area(x, y)),
-        },
-        Answer::Square(x) => match reader::read(b) {
-            Answer::Refused(k) => Covering::Refused(k),
-            Answer::Bare(_) => Covering::DoesNot,
-            Answer::Square(y) => verdict_of(is_covering(x, y)),
-        },
-    }
+    let outer = reader::read(a)?;
+    let inner = reader::read(b)?;
+    Ok(match (outer, inner) {
+        (Reading::Bare(x), Reading::Bare(y)) => is_same_area(x, y),
+        (Reading::Bare(x), Reading::Square(y)) => is_same_area(x, y),
+        (Reading::Square(_), Reading::Bare(_)) => false,
+        (Reading::Square(x), Reading::Square(y)) => {
+            is_covering(NearSquare { position: x }, NearSquare { position: y })
+        }
+    })
 }

@@ -4,17 +4,16 @@
 ghost use Rattle.std.specs.Prelude.{◌≡◌};
 ghost use Rattle.laws.specs.Trips.{back_of};
 
-use reader::Answer;
-use writer::Written;
+use position::Position;
+use reader::Reading;
+use rules::Refusal;
 
 // Writes a point's reference and reads it again: its square or its bare zone, or the rule that forbids writing. 27 bytes
 // hold every reference.
-pub fn read_back(zone: i64, north: bool, band: u8, p: i64, easting: i64, northing: i64) -> Answer
-    ensures { result ≡ back_of zone north band p easting northing }
+pub fn read_back(q: Position) -> Result<Reading<Position>, Refusal>
+    ensures { result ≡ back_of q.zone q.north q.band q.p q.easting q.northing }
 {
     let mut out = [0u8; 27];
-    match writer::write(zone, north, band, p, easting, northing, &mut out) {
-        Written::Refused(k) => Answer::Refused(k),
-        Written::Length(n) => reader::read(&out[..n]),
-    }
+    let n = writer::write(q, &mut out)?;
+    reader::read(&out[..n])
 }

@@ -1,49 +1,55 @@
-// The calls below those for C and Rust, and the caller that writes and reads. Each answer is printed at once.
+// The calls below those for C and Rust, and the caller that writes and reads. Each answer is printed at once, with a space in front.
 use crate::fields::{after, byte_of, first_number, head, is_north, size_of};
-use crate::print;
 use bands::Grid;
-use letters::Place;
 use position::Position;
-use reader::Answer;
-use rows::RowAnswer;
+use reader::Reading;
 use std::io;
 
 // ---- of one number
 
 // A power of ten.
 pub(crate) fn ten(rt: &impl Print, k: i64) -> io::Result<()> {
-    print::number(rt, whole::power_of_ten(whole::fold_of(k) as usize))
+    let power = whole::power_of_ten(whole::fold_of(k) as usize);
+    print!(rt; " {power}")
 }
 
 // The lowest and the highest row of a band.
 pub(crate) fn limits(rt: &impl Print, band: i64) -> io::Result<()> {
     let l = rows::limits_of(band);
-    print::signed(rt, l.low)?;
-    print::signed(rt, l.high)
+    let low = l.low;
+    let high = l.high;
+    print!(rt; " {low} {high}")
 }
 
 pub(crate) fn grid(rt: &impl Print, zone: i64) -> io::Result<()> {
     match bands::grid_of(zone) {
-        Grid::Utm => print::text(rt, b" utm"),
-        Grid::Ups => print::text(rt, b" ups"),
-        Grid::NoZone => print::text(rt, b" none"),
+        Grid::Utm => print!(rt; " utm"),
+        Grid::Ups => print!(rt; " ups"),
+        Grid::NoZone => print!(rt; " none"),
     }
 }
 
 // The shift of a zone's row letters.
 pub(crate) fn shift(rt: &impl Print, zone: i64) -> io::Result<()> {
-    print::number(rt, rows::shift_of(zone))
+    let shift = rows::shift_of(zone);
+    print!(rt; " {shift}")
 }
 
 pub(crate) fn capital(rt: &impl Print, byte: u8) -> io::Result<()> {
-    print::number(rt, letters::capital(byte) as u64)
+    let capital = letters::capital(byte);
+    print!(rt; " {capital}")
+}
+
+fn side_of(north: bool) -> char {
+    if north { 'N' } else { 'S' }
 }
 
 // The hemisphere of a band, and whether it is a UPS band of the east.
 pub(crate) fn side(rt: &impl Print, band: u8) -> io::Result<()> {
-    print::side(rt, letters::is_north(band))?;
+    let side = side_of(letters::is_north(band));
+    print!(rt; " {side}")?;
     if letters::is_east(band) {
-        print::text(rt, b" E")?;
+        print!(rt; " E")?;
     }
     Ok(())
 }
@@ -53,24 +59,18 @@ pub(crate) fn side(rt: &impl Print, band: u8) -> io::Result<()> {
 // Whether a band and a column allow a row.
 pub(crate) fn allowed(rt: &impl Print, band: i64, column: i64, row: i64) -> io::Result<()> {
     if rows::is_allowed(band, whole::fold_of(column) as usize, row) {
-        return print::text(rt, b" yes");
+        print!(rt; " yes")
+    } else {
+        print!(rt; " no")
     }
-    print::text(rt, b" no")
 }
 
 // The half of a square's side, the corner of the square around a centre, and the side.
 pub(crate) fn corner(rt: &impl Print, p: i64, centre: i64) -> io::Result<()> {
-    print::number(rt, position::half_of(p))?;
-    print::signed(rt, position::corner_of(p, centre))?;
-    print::number(rt, position::side_length(p))
-}
-
-// A place as a number: 99 for none.
-fn at(place: Place) -> usize {
-    match place {
-        Place::At(k) => k,
-        Place::NotInSet => 99,
-    }
+    let half = position::half_of(p);
+    let corner = position::corner_of(p, centre);
+    let side = position::side_length(p);
+    print!(rt; " {half} {corner} {side}")
 }
 
 // The bands by the places of their letters.
@@ -78,62 +78,66 @@ const BANDS: [i64; 20] = [
     -10, -9, -8, -7, -6, -5, -4, -3, -2, -1, 0, 1, 2, 3, 4, 5, 6, 7, 8, 9,
 ];
 
-// The row of a 100 km square of UTM, or that there is none.
+// The row of a 100 km square of UTM; none where a letter is not in its set.
+fn row_of(zone: i64, band: i64, column: u8, row: u8) -> Option<i64> {
+    let c = columns::utm_place(zone, letters::capital(column))?;
+    let r = row_letters::utm_place(letters::capital(row))?;
+    rows::utm_row_at(rows::shift_of(zone), band, c, r)
+}
+
 pub(crate) fn square(rt: &impl Print, zone: i64, band: u8, column: u8, row: u8) -> io::Result<()> {
-    let b = at(bands::band_place(zone, letters::capital(band)));
-    if 20 <= b {
-        return print::text(rt, b" no band");
-    }
-    let c = at(columns::utm_place(zone, letters::capital(column)));
-    let r = at(row_letters::utm_place(letters::capital(row)));
-    match rows::utm_row_at(rows::shift_of(zone), BANDS[b], c, r) {
-        RowAnswer::Row(found) => print::signed(rt, found.row),
-        RowAnswer::Nothing => print::text(rt, b" none"),
+    let place = bands::band_place(zone, letters::capital(band));
+    let Some(band) = place.and_then(|b| BANDS.get(b).copied()) else {
+        return print!(rt; " no band");
+    };
+    match row_of(zone, band, column, row) {
+        Some(found) => print!(rt; " {found}"),
+        None => print!(rt; " none"),
     }
 }
 
 // ---- of a position
 
-// Zone, hemisphere, band, p and the point.
+// Zone, hemisphere, band, p and the point. The band is written as the byte that it is.
 fn point(rt: &impl Print, q: Position) -> io::Result<()> {
-    print::signed(rt, q.zone)?;
-    print::side(rt, q.north)?;
-    print::text(rt, b" ")?;
-    print::text(rt, &[q.band])?;
-    print::signed(rt, q.p)?;
-    print::signed(rt, q.easting)?;
-    print::signed(rt, q.northing)
+    let zone = q.zone;
+    let side = side_of(q.north);
+    print!(rt; " {zone} {side} ")?;
+    rt.write_all(&[q.band])?;
+    let p = q.p;
+    let easting = q.easting;
+    let northing = q.northing;
+    print!(rt; " {p} {easting} {northing}")
+}
+
+fn position_of(q: [i64; 6]) -> Position {
+    let [zone, side, band, p, easting, northing] = q;
+    Position {
+        zone,
+        north: is_north(side),
+        band: byte_of(band),
+        p,
+        easting,
+        northing,
+    }
 }
 
 pub(crate) fn south_west(rt: &impl Print, q: [i64; 6]) -> io::Result<()> {
-    point(
-        rt,
-        position::south_west(Position {
-            zone: q[0],
-            north: is_north(q[1]),
-            band: byte_of(q[2]),
-            p: q[3],
-            easting: q[4],
-            northing: q[5],
-        }),
-    )
+    point(rt, position::south_west(position_of(q)))
 }
 
 // What is written and read again.
 pub(crate) fn back(rt: &impl Print, q: [i64; 6]) -> io::Result<()> {
-    match trip::read_back(q[0], is_north(q[1]), byte_of(q[2]), q[3], q[4], q[5]) {
-        Answer::Square(x) => {
-            print::text(rt, b" square")?;
+    match trip::read_back(position_of(q)) {
+        Ok(Reading::Square(x)) => {
+            print!(rt; " square")?;
             point(rt, x)
         }
-        Answer::Bare(x) => {
-            print::text(rt, b" bare")?;
+        Ok(Reading::Bare(x)) => {
+            print!(rt; " bare")?;
             point(rt, x)
         }
-        Answer::Refused(n) => {
-            print::text(rt, b" refused")?;
-            print::number(rt, n)
-        }
+        Err(refusal) => print!(rt; " refused {}", refusal.number()),
     }
 }
 
@@ -143,15 +147,14 @@ pub(crate) fn back(rt: &impl Print, q: [i64; 6]) -> io::Result<()> {
 pub(crate) fn floor(rt: &impl Print, s: &[u8]) -> io::Result<()> {
     let x = first_number(s);
     let d = size_of(head(after(s, 1)));
-    print::number(rt, whole::fold_of(x))?;
-    print::signed(rt, whole::floor_div(x, d))?;
-    print::number(rt, whole::floor_mod(x, d))
+    let folded = whole::fold_of(x);
+    let quotient = whole::floor_div(x, d);
+    let rest = whole::floor_mod(x, d);
+    print!(rt; " {folded} {quotient} {rest}")
 }
 
 // The place of a row's letter at a shift.
 pub(crate) fn letter(rt: &impl Print, s: &[u8]) -> io::Result<()> {
-    print::number(
-        rt,
-        rows::letter_of(size_of(head(s)), first_number(after(s, 1))) as u64,
-    )
+    let place = rows::letter_of(size_of(head(s)), first_number(after(s, 1)));
+    print!(rt; " {place}")
 }

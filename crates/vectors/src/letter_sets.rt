@@ -1,34 +1,13 @@
 // The letter sets of a zone: its letters in their order, how many they are, and the tile of the first.
-use crate::print;
 use bands::Grid;
-use letters::Place;
 use std::io;
 
-#[derive(Clone, Copy)]
-enum Kind {
-    Bands,
-    Columns,
-    Rows,
-}
-
-// A set as it is asked for: bands have neither band nor hemisphere, and so on.
-#[derive(Clone, Copy)]
-struct Set {
-    kind: Kind,
-    zone: i64,
-    band: u8,
-    north: bool,
-}
-
 // A tile as a place, by the first tile.
-fn from_first(tile: Place, first: usize) -> Place {
-    match tile {
-        Place::At(t) => Place::At(t.wrapping_sub(first)),
-        Place::NotInSet => Place::NotInSet,
-    }
+fn from_first(tile: Option<usize>, first: usize) -> Option<usize> {
+    tile.map(|t| t.wrapping_sub(first))
 }
 
-fn column_place(zone: i64, band: u8, letter: u8) -> Place {
+fn column_place(zone: i64, band: u8, letter: u8) -> Option<usize> {
     match bands::grid_of(zone) {
         Grid::Ups => from_first(
             columns::ups_tile(band, letter),
@@ -38,120 +17,81 @@ fn column_place(zone: i64, band: u8, letter: u8) -> Place {
     }
 }
 
-fn row_place(zone: i64, north: bool, letter: u8) -> Place {
+fn row_place(zone: i64, north: bool, letter: u8) -> Option<usize> {
     match bands::grid_of(zone) {
         Grid::Utm => row_letters::utm_place(letter),
         Grid::Ups => from_first(
             row_letters::ups_tile(north, letter),
             row_letters::first_row(zone, north),
         ),
-        Grid::NoZone => Place::NotInSet,
+        Grid::NoZone => None,
     }
 }
 
-fn place_in(set: Set, letter: u8) -> Place {
-    let kind = set.kind;
-    match kind {
-        Kind::Bands => bands::band_place(set.zone, letter),
-        Kind::Columns => column_place(set.zone, set.band, letter),
-        Kind::Rows => row_place(set.zone, set.north, letter),
-    }
+// A set as it is asked for.
+#[derive(Clone, Copy)]
+pub(crate) enum Set {
+    Bands { zone: i64 },
+    Columns { zone: i64, band: u8 },
+    Rows { zone: i64, north: bool },
 }
 
-// No call tells a band's letter: it is the one that was asked for, if the zone has it.
-fn band_letter(zone: i64, letter: u8) -> u8 {
-    if bands::is_band(zone, letter) {
-        return letter;
+impl Set {
+    fn place(self, letter: u8) -> Option<usize> {
+        match self {
+            Set::Bands { zone } => bands::band_place(zone, letter),
+            Set::Columns { zone, band } => column_place(zone, band, letter),
+            Set::Rows { zone, north } => row_place(zone, north, letter),
+        }
     }
-    0
-}
 
-// The letter at a place.
-fn letter_in(set: Set, letter: u8, place: usize) -> u8 {
-    let kind = set.kind;
-    match kind {
-        Kind::Bands => band_letter(set.zone, letter),
-        Kind::Columns => columns::column_letter(set.zone, set.band, place),
-        Kind::Rows => row_letters::row_letter(set.zone, set.north, place),
-    }
-}
-
-fn first_tile(set: Set) -> usize {
-    let kind = set.kind;
-    match kind {
-        Kind::Bands => 0,
-        Kind::Columns => columns::first_column(set.zone, set.band),
-        Kind::Rows => row_letters::first_row(set.zone, set.north),
-    }
-}
-
-// Whether a letter is found at a place, and that place holds it.
-fn is_found(set: Set, letter: u8, place: usize) -> bool {
-    match place_in(set, letter) {
-        Place::At(k) => {
-            if k != place {
-                return false;
+    // The letter at a place, 0 for none, as the calls answer. No call tells a band's letter: it is the one that is asked for, if the zone has it.
+    fn letter(self, place: usize, asked: u8) -> u8 {
+        match self {
+            Set::Bands { zone } => {
+                if bands::is_band(zone, asked) {
+                    asked
+                } else {
+                    0
+                }
             }
-            letter_in(set, letter, k) == letter
-        }
-        Place::NotInSet => false,
-    }
-}
-
-// Of all bytes, those that are found one behind the other.
-fn spell(rt: &impl Print, set: Set) -> io::Result<usize> {
-    let mut n: usize = 0;
-    for byte in 0..=u8::MAX {
-        if is_found(set, byte, n) {
-            print::text(rt, &[byte])?;
-            n = n.wrapping_add(1);
+            Set::Columns { zone, band } => columns::column_letter(zone, band, place),
+            Set::Rows { zone, north } => row_letters::row_letter(zone, north, place),
         }
     }
-    Ok(n)
-}
 
-fn tell(rt: &impl Print, set: Set) -> io::Result<()> {
-    print::text(rt, b" ")?;
-    let n = spell(rt, set)?;
-    if letter_in(set, 0, n) != 0 {
-        print::text(rt, b" and more")?;
+    fn first_tile(self) -> usize {
+        match self {
+            Set::Bands { .. } => 0,
+            Set::Columns { zone, band } => columns::first_column(zone, band),
+            Set::Rows { zone, north } => row_letters::first_row(zone, north),
+        }
     }
-    print::number(rt, n as u64)?;
-    print::number(rt, first_tile(set) as u64)
-}
 
-pub(crate) fn bands(rt: &impl Print, zone: i64) -> io::Result<()> {
-    tell(
-        rt,
-        Set {
-            kind: Kind::Bands,
-            zone,
-            band: 0,
-            north: false,
-        },
-    )
-}
+    // Whether a letter is found at a place, and that place holds it.
+    fn is_found(self, letter: u8, place: usize) -> bool {
+        self.place(letter) == Some(place) && self.letter(place, letter) == letter
+    }
 
-pub(crate) fn columns(rt: &impl Print, zone: i64, band: u8) -> io::Result<()> {
-    tell(
-        rt,
-        Set {
-            kind: Kind::Columns,
-            zone,
-            band,
-            north: false,
-        },
-    )
-}
+    // Of all bytes, those that are found one behind the other.
+    fn spell(self, rt: &impl Print) -> io::Result<usize> {
+        let mut n: usize = 0;
+        for byte in 0..=u8::MAX {
+            if self.is_found(byte, n) {
+                rt.write_all(&[byte])?;
+                n = n.wrapping_add(1);
+            }
+        }
+        Ok(n)
+    }
 
-pub(crate) fn rows(rt: &impl Print, zone: i64, north: bool) -> io::Result<()> {
-    tell(
-        rt,
-        Set {
-            kind: Kind::Rows,
-            zone,
-            band: 0,
-            north,
-        },
-    )
+    pub(crate) fn tell(self, rt: &impl Print) -> io::Result<()> {
+        print!(rt; " ")?;
+        let n = self.spell(rt)?;
+        if self.letter(n, 0) != 0 {
+            print!(rt; " and more")?;
+        }
+        let first = self.first_tile();
+        print!(rt; " {n} {first}")
+    }
 }

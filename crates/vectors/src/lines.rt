@@ -1,133 +1,100 @@
-// Standard input, line by line. A block of it and the line are buffers of the caller's; where the reading stands goes from call
-// to call.
+// Standard input, line by line, by blocks of it.
+use say::front;
 use std::io;
 use std::io::{ErrorKind, Read};
 
-// The length of a line that its buffer does not hold; of such a line the first bytes are kept.
-pub(crate) const LONGER: usize = usize::MAX;
-
-// How a step left the line: open, at its end, or with no line any more.
-const OPEN: u8 = 0;
-
-const ENDED: u8 = 1;
-
-pub(crate) const NO_LINE: u8 = 2;
-
-// The part of the block that is not yet read, the length of the line, and how it was left.
+// A line, of which its first bytes are kept: all of them, unless it is longer than that.
 #[derive(Clone, Copy)]
-pub(crate) struct Reading {
-    pub at: usize,
-    pub end: usize,
-    pub used: usize,
-    pub how: u8,
+pub(crate) struct Line {
+    bytes: [u8; 256],
+    length: usize,
 }
 
-pub(crate) fn start() -> Reading {
-    Reading {
-        at: 0,
-        end: 0,
-        used: 0,
-        how: ENDED,
-    }
-}
-
-fn keep(line: &mut [u8], used: usize, byte: u8) -> usize {
-    if used < line.len() {
-        line[used] = byte;
-        return used + 1;
-    }
-    LONGER
-}
-
-// One read of a block, whose length it answers. One that a signal interrupted brought nothing, and is no end.
-fn read_block<R: Read>(input: &mut R, block: &mut [u8]) -> io::Result<Option<usize>> {
-    match input.read(block) {
-        Ok(n) => Ok(Some(n)),
-        Err(e) => {
-            if e.kind() == ErrorKind::Interrupted {
-                return Ok(None);
-            }
-            Err(e)
+impl Line {
+    fn empty() -> Line {
+        Line {
+            bytes: [0; 256],
+            length: 0,
         }
     }
+
+    fn push(&mut self, byte: u8) {
+        if let Some(place) = self.bytes.get_mut(self.length) {
+            *place = byte;
+        }
+        self.length = self.length.saturating_add(1);
+    }
+
+    pub(crate) fn kept(&self) -> &[u8] {
+        front(&self.bytes, self.length)
+    }
+
+    pub(crate) fn is_whole(&self) -> bool {
+        self.length <= self.bytes.len()
+    }
 }
 
-// The next block. At the end of the input a line with no line feed is one all the same.
-fn refilled<R: Read>(input: &mut R, block: &mut [u8], used: usize) -> io::Result<Reading> {
-    let Some(end) = read_block(input, block)? else {
-        return Ok(Reading {
+// An input, and the block that was read last: its bytes from `at` to before `end` are still to come.
+#[derive(Drop)]
+pub(crate) struct Lines<R: Read + Drop> {
+    input: R,
+    block: [u8; 65_536],
+    at: usize,
+    end: usize,
+}
+
+impl<R: Read + Drop> Lines<R> {
+    pub(crate) fn new(input: R) -> Lines<R> {
+        Lines {
+            input,
+            block: [0; 65_536],
             at: 0,
             end: 0,
-            used,
-            how: OPEN,
-        });
-    };
-    let mut how = OPEN;
-    if end == 0 {
-        how = ENDED;
-        if used == 0 {
-            how = NO_LINE;
         }
     }
-    Ok(Reading {
-        at: 0,
-        end,
-        used,
-        how,
-    })
-}
 
-// One byte more of the line, or one block.
-fn step<R: Read>(
-    input: &mut R,
-    block: &mut [u8],
-    line: &mut [u8],
-    r: Reading,
-) -> io::Result<Reading> {
-    let at = r.at;
-    let end = r.end;
-    let used = r.used;
-    if end <= at {
-        return refilled(input, block, used);
-    }
-    if block.len() <= at {
-        return refilled(input, block, used);
-    }
-    let byte = block[at];
-    if byte == b'\n' {
-        return Ok(Reading {
-            at: at + 1,
-            end,
-            used,
-            how: ENDED,
-        });
-    }
-    Ok(Reading {
-        at: at + 1,
-        end,
-        used: keep(line, used, byte),
-        how: OPEN,
-    })
-}
-
-// A proved loop has to end, and nothing says that a line does: it has more turns than any run uses up.
-pub(crate) fn next<R: Read>(
-    input: &mut R,
-    block: &mut [u8],
-    line: &mut [u8],
-    before: Reading,
-) -> io::Result<Reading> {
-    let mut r = Reading {
-        at: before.at,
-        end: before.end,
-        used: 0,
-        how: OPEN,
-    };
-    for _ in 0..u64::MAX {
-        r = step(input, block, line, r)?;
-        if r.how != OPEN {
-            break;
+    // Reads the next block. A read that a signal interrupted brought nothing, and is made again. A proved loop has to end: this one
+    // and those below have more turns than any run uses up.
+    fn refill(&mut self) -> io::Result<()> {
+        self.at = 0;
+        self.end = 0;
+        for _ in 0..u64::MAX {
+            match self.input.read(&mut self.block) {
+                Ok(n) => {
+                    self.end = n;
+                    break;
+                }
+                Err(e) if e.kind() == ErrorKind::Interrupted => {}
+                Err(e) => return Err(e),
+            }
         }
+        Ok(())
     }
-    Ok(r)
+
+    // None at the end of the input.
+    fn next_byte(&mut self) -> io::Result<Option<u8>> {
+        if self.end <= self.at {
+            self.refill()?;
+        }
+        if self.end <= self.at {
+            return Ok(None);
+        }
+        let byte = self.block.get(self.at).copied();
+        self.at = self.at.saturating_add(1);
+        Ok(byte)
+    }
+
+    // None at the end of the input, where a line with no line feed is one all the same.
+    pub(crate) fn next(&mut self) -> io::Result<Option<Line>> {
+        let mut line = Line::empty();
+        for _ in 0..u64::MAX {
+            match self.next_byte()? {
+                Some(b'\n') => break,
+                Some(byte) => line.push(byte),
+                None if line.length == 0 => return Ok(None),
+                None => break,
+            }
+        }
+        Ok(Some(line))
+    }
 }

@@ -1,44 +1,93 @@
 // The questions of which no answer is recorded. Each is told with a space in front, whatever its fields are: one that is missing or
 // spells no number counts as 0.
-use crate::fields::{byte_of, is_north, numbers, place_of};
-use crate::{calls, ground, letter_sets};
+use crate::fields::{byte_of, is_north, numbers};
+use crate::letter_sets::Set;
+use crate::{calls, ground};
 use std::io;
 
-// What is none of them.
-pub(crate) const NO_KIND: usize = 20;
-
-// Each word stands at the place that it has in `tell`.
-pub(crate) fn kind_of(word: &[u8]) -> usize {
-    place_of(
-        word,
-        b"shorten covers list fields floor letter ten limits grid shift capital side bands columns rows allowed corner square south-west back",
-    )
+#[derive(Clone, Copy)]
+pub(crate) enum Other {
+    Shorten,
+    Covers,
+    List,
+    Fields,
+    Floor,
+    Letter,
+    Ten,
+    Limits,
+    Grid,
+    Shift,
+    Capital,
+    Side,
+    Bands,
+    Columns,
+    Rows,
+    Allowed,
+    Corner,
+    Square,
+    SouthWest,
+    Back,
 }
 
-pub(crate) fn tell(rt: &impl Print, kind: usize, s: &[u8], room: usize) -> io::Result<()> {
-    let mut q = [0i64; 6];
-    numbers(s, &mut q);
-    match kind {
-        0 => calls::shorten(rt, s, room),
-        1 => calls::covers(rt, s),
-        2 => calls::list(rt, s, room),
-        3 => calls::fields(rt, s),
-        4 => ground::floor(rt, s),
-        5 => ground::letter(rt, s),
-        6 => ground::ten(rt, q[0]),
-        7 => ground::limits(rt, q[0]),
-        8 => ground::grid(rt, q[0]),
-        9 => ground::shift(rt, q[0]),
-        10 => ground::capital(rt, byte_of(q[0])),
-        11 => ground::side(rt, byte_of(q[0])),
-        12 => letter_sets::bands(rt, q[0]),
-        13 => letter_sets::columns(rt, q[0], byte_of(q[1])),
-        14 => letter_sets::rows(rt, q[0], is_north(q[1])),
-        15 => ground::allowed(rt, q[0], q[1], q[2]),
-        16 => ground::corner(rt, q[0], q[1]),
-        17 => ground::square(rt, q[0], byte_of(q[1]), byte_of(q[2]), byte_of(q[3])),
-        18 => ground::south_west(rt, q),
-        19 => ground::back(rt, q),
-        _ => Ok(()),
+impl Other {
+    pub(crate) fn of(word: &[u8]) -> Option<Other> {
+        Some(match word {
+            b"shorten" => Other::Shorten,
+            b"covers" => Other::Covers,
+            b"list" => Other::List,
+            b"fields" => Other::Fields,
+            b"floor" => Other::Floor,
+            b"letter" => Other::Letter,
+            b"ten" => Other::Ten,
+            b"limits" => Other::Limits,
+            b"grid" => Other::Grid,
+            b"shift" => Other::Shift,
+            b"capital" => Other::Capital,
+            b"side" => Other::Side,
+            b"bands" => Other::Bands,
+            b"columns" => Other::Columns,
+            b"rows" => Other::Rows,
+            b"allowed" => Other::Allowed,
+            b"corner" => Other::Corner,
+            b"square" => Other::Square,
+            b"south-west" => Other::SouthWest,
+            b"back" => Other::Back,
+            _ => return None,
+        })
+    }
+
+    pub(crate) fn tell(self, rt: &impl Print, s: &[u8], room: usize) -> io::Result<()> {
+        let mut q = [0i64; 6];
+        numbers(s, &mut q);
+        match self {
+            Other::Shorten => calls::shorten(rt, s, room),
+            Other::Covers => calls::covers(rt, s),
+            Other::List => calls::list(rt, s, room),
+            Other::Fields => calls::fields(rt, s),
+            Other::Floor => ground::floor(rt, s),
+            Other::Letter => ground::letter(rt, s),
+            Other::Ten => ground::ten(rt, q[0]),
+            Other::Limits => ground::limits(rt, q[0]),
+            Other::Grid => ground::grid(rt, q[0]),
+            Other::Shift => ground::shift(rt, q[0]),
+            Other::Capital => ground::capital(rt, byte_of(q[0])),
+            Other::Side => ground::side(rt, byte_of(q[0])),
+            Other::Bands => Set::Bands { zone: q[0] }.tell(rt),
+            Other::Columns => Set::Columns {
+                zone: q[0],
+                band: byte_of(q[1]),
+            }
+            .tell(rt),
+            Other::Rows => Set::Rows {
+                zone: q[0],
+                north: is_north(q[1]),
+            }
+            .tell(rt),
+            Other::Allowed => ground::allowed(rt, q[0], q[1], q[2]),
+            Other::Corner => ground::corner(rt, q[0], q[1]),
+            Other::Square => ground::square(rt, q[0], byte_of(q[1]), byte_of(q[2]), byte_of(q[3])),
+            Other::SouthWest => ground::south_west(rt, q),
+            Other::Back => ground::back(rt, q),
+        }
     }
 }

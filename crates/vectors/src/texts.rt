@@ -1,104 +1,50 @@
 // A text as a line has it: bytes `!` to `~` but `\` stand for themselves, any other byte is `\` and two small hex digits.
-use crate::pen::put_byte;
+ghost use Rattle.std.specs.Prelude.{◌<◌, IfSome};
 
-// Longer than any text.
-pub(crate) const NO_TEXT: usize = usize::MAX;
-
-// Larger than any byte.
-const NO_BYTE: u64 = 256;
-
-fn is_plain(byte: u64) -> bool {
-    if byte == 92 {
-        return false;
-    }
-    if byte < 33 {
-        return false;
-    }
-    byte < 127
+fn is_plain(byte: u8) -> bool {
+    byte.is_ascii_graphic() && byte != b'\\'
 }
 
-// What a small hex digit is worth; 16 for any other byte.
-fn hex_of(byte: u8) -> u64 {
-    if words::is_digit(byte) {
-        return (byte % 48) as u64;
+// What a small hex digit is worth.
+fn hex_of(byte: u8) -> Option<u8>
+    ensures { IfSome result (λ d. d < 16) }
+{
+    match byte {
+        b'0'..=b'9' => Some(byte - b'0'),
+        b'a'..=b'f' => Some(byte - b'a' + 10),
+        _ => None,
     }
-    if byte < b'a' {
-        return 16;
-    }
-    if b'f' < byte {
-        return 16;
-    }
-    (byte - 87) as u64
 }
 
 // The byte of an escape's two digits. A byte that stands for itself has none.
-fn escaped(high: u64, low: u64) -> u64 {
-    if 15 < high {
-        return NO_BYTE;
-    }
-    if 15 < low {
-        return NO_BYTE;
-    }
-    let byte = high * 16 + low;
-    if is_plain(byte) {
-        return NO_BYTE;
-    }
-    byte
+fn escaped(high: u8, low: u8) -> Option<u8> {
+    let byte = hex_of(high)? * 16 + hex_of(low)?;
+    if is_plain(byte) { None } else { Some(byte) }
 }
 
-fn alone(byte: u8) -> u64 {
-    let code = byte as u64;
-    if is_plain(code) {
-        return code;
+// The first byte of a text, by itself or escaped, and what is behind it.
+fn first_byte(s: &[u8]) -> Option<(u8, &[u8])> {
+    match s {
+        [b'\\', high, low, rest @ ..] => Some((escaped(*high, *low)?, rest)),
+        [byte, rest @ ..] if is_plain(*byte) => Some((*byte, rest)),
+        _ => None,
     }
-    NO_BYTE
 }
 
-// The byte that stands at k, by itself or escaped.
-fn byte_at(s: &[u8], k: usize) -> u64 {
-    if s.len() <= k {
-        return NO_BYTE;
-    }
-    if s[k] != b'\\' {
-        return alone(s[k]);
-    }
-    if s.len() - k < 3 {
-        return NO_BYTE;
-    }
-    escaped(hex_of(s[k + 1]), hex_of(s[k + 2]))
-}
-
-// Behind that byte.
-fn behind(s: &[u8], k: usize) -> usize {
-    if s.len() <= k {
-        return k;
-    }
-    if s[k] != b'\\' {
-        return k + 1;
-    }
-    if s.len() - k < 3 {
-        return s.len();
-    }
-    k + 3
-}
-
-// The length of the text, which is put into the buffer; NO_TEXT where it does not fit or is none.
-pub(crate) fn text_of(s: &[u8], out: &mut [u8]) -> usize {
-    let mut used = 0;
-    let mut k = 0;
-    for _ in 0..s.len() {
-        if s.len() <= k {
-            break;
+// The length of the text, which is put into the buffer; none where it does not fit or is no text.
+pub(crate) fn text_of(s: &[u8], out: &mut [u8]) -> Option<usize> {
+    let mut rest = s;
+    for (k, place) in out.iter_mut().enumerate() {
+        if rest.is_empty() {
+            return Some(k);
         }
-        let byte = byte_at(s, k);
-        if 255 < byte {
-            return NO_TEXT;
-        }
-        if used == out.len() {
-            return NO_TEXT;
-        }
-        used = put_byte(out, used, byte as u8);
-        k = behind(s, k);
+        let (byte, others) = first_byte(rest)?;
+        *place = byte;
+        rest = others;
     }
-    used
+    if rest.is_empty() {
+        Some(out.len())
+    } else {
+        None
+    }
 }

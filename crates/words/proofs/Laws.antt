@@ -1,13 +1,13 @@
 -- Digits and parts of them. Assumes nothing.
-use mathlib.Core.Path.{◌≡◌, refl, sym, ap, ◌∙◌}
+use mathlib.Core.Path.{◌≡◌, refl, sym, ◌∙◌}
 use mathlib.Core.Bool.{Bool, true, false, cond, ◌&&◌, and_assoc}
 use mathlib.Core.List.{List, [], ◌∷◌}
-use Prim.Native.Nat.{ℕ, zero, suc, ◌+◌, ◌-◌, ◌≤◌, ◌<◌}
+use Prim.Native.Nat.{ℕ, zero, suc, ◌-◌, ◌≤◌, ◌<◌}
 use native.Mathlib.Omega.{arith}
-use borrow.Author.Tests.{ltb-false, leb-true, le-ltb}
+use borrow.Author.Tests.{ltb-false, leb-true}
 use lib.Dec.{ltb, leb}
-use lib.ListN.{length, get_or, take, drop, length-take, length-drop}
-use lib.Seq.{take_all, take-take}
+use lib.ListN.{length, get_or, take, drop, length-drop}
+use lib.Seq.{take_all}
 use Rattle.words.specs.Bytes.{is_digit, all_digits}
 use Rattle.words.specs.Words.{word_of, first_word}
 
@@ -61,13 +61,7 @@ all_rest s n t = and_right (all_digits (take n s)) _ (sym (all_split n s) ∙ t)
 pub all_part : (s : List ℕ) (i j : ℕ) → all_digits s ≡ true → all_digits (take j (drop i s)) ≡ true
 all_part s i j t = all_front (drop i s) j (all_rest s i t)
 
--- the word of a part of eight bytes
-word_by : (t : List ℕ) → 8 ≤ length t → first_word t ≡ word_of (take 8 t)
+-- the word of eight bytes
+pub word_eight : (t : List ℕ) → length t ≡ 8 → first_word t ≡ word_of t
 unfolding first_word
-word_by t h = rw (le-ltb (length t) 8 h)
-
-pub word_is : (s : List ℕ) (i : ℕ) → i + 8 ≤ length s → first_word (take (i + 8 - i) (drop i s)) ≡ word_of (take 8 (drop i s))
-word_is s i h =
-    let e : i + 8 - i ≡ 8 = omega arith in
-    let l : 8 ≤ length (take 8 (drop i s)) = simp (length-take, length-drop) (omega arith) in
-    rw e (word_by (take 8 (drop i s)) l ∙ ap word_of (take-take 8 8 (drop i s) (omega arith)))
+word_eight t l = rw (l, take_all 8 t (omega arith))

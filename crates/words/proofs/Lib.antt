@@ -1,4 +1,4 @@
 pub mod Laws
-pub mod High
+pub mod Parts
 pub mod Words
 pub mod Unique

@@ -2,159 +2,153 @@
 // Every call takes any slice and looks at each of its bytes once; some bytes of 8 to 32 stand in two steps of eight or sixteen.
 #![tactic(auto)]
 
-ghost use Rattle.std.specs.Prelude.{◌≡◌, true, ◌+◌, ◌≤◌, length, take, drop};
-ghost use Rattle.words.specs.Bytes.{is_digit, all_digits, has_high};
+ghost use Rattle.std.specs.Prelude.{◌≡◌, ◌≤◌, ℕ, Bool, true, length};
+ghost use Rattle.std.specs.List.{list_any};
+ghost use Rattle.words.specs.Bytes.{high, is_digit, all_digits, has_high};
 ghost use Rattle.words.specs.Words.{word_of, first_word};
-ghost use Rattle.words.specs.inner.Flags.{all_bytes, others_of};
+ghost use Rattle.words.specs.inner.Flags.{others_of, no_digit, Tells};
+ghost use Rattle.words.specs.inner.Kinds.{high_told, no_digit_told};
 
 // 0 to 9.
+#[tactic(auto, unfolding(crate::specs::Bytes::is_digit))]
 pub fn is_digit(b: u8) -> bool
     ensures { result ≡ is_digit b }
 {
-    if b < b'0' {
-        return false;
-    }
-    b <= b'9'
+    b.is_ascii_digit()
 }
 
 // ---- eight bytes as one number
 
-// Eight bytes as one number, the first the lowest. The compiler makes one read of it.
-fn word_at(s: &[u8], i: usize) -> u64
-    requires { i + 8 ≤ length s.now }
-    ensures { (result ≡ word_of (take 8 (drop i s.now))) × (all_bytes (take 8 (drop i s.now)) ≡ true) }
-{
-    s[i] as u64
-        + s[i + 1] as u64 * 0x100
-        + s[i + 2] as u64 * 0x10000
-        + s[i + 3] as u64 * 0x1000000
-        + s[i + 4] as u64 * 0x100000000
-        + s[i + 5] as u64 * 0x10000000000
-        + s[i + 6] as u64 * 0x1000000000000
-        + s[i + 7] as u64 * 0x100000000000000
-}
-
-// The same of any bytes: of the first eight, and 0 of fewer. Of a part that has eight the test costs nothing.
+// The first eight bytes as one number, the first the lowest, and 0 of fewer, as `first_word` of specs/Words has it. The compiler makes
+// one read of it, and of a part that has eight the test costs nothing.
+#[tactic(auto, using(crate::proofs::Words::word_is), unfolding(crate::specs::Words::first_word))]
 pub fn word(s: &[u8]) -> u64
     ensures { result ≡ first_word s.now }
 {
-    if s.len() < 8 {
-        return 0;
+    match s.first_chunk::<8>() {
+        Some(eight) => u64::from_le_bytes(*eight),
+        None => 0,
     }
-    word_at(s, 0)
 }
 
-// ---- high bytes
+// ---- whether a byte of a kind stands anywhere
 
-// All bytes together, bit by bit, have the bit of 128 exactly if one of them has. The pass goes to the end in any case: one with
-// no exit is compiled into wide steps.
-fn has_high_in(s: &[u8]) -> bool
-    ensures { result ≡ has_high s.now }
-{
-    let mut all: u8 = 0;
-    let mut i = 0;
-    while i < s.len() {
-        all = all | s[i];
-        i += 1;
-    }
-    128 <= all
+// A kind of bytes, told by the bit of 128: of one byte, and of each of eight as one number.
+trait Kind {
+    ghost is_of: { ℕ → Bool };
+
+    ghost flags: { ℕ → ℕ };
+
+    fn flag(b: u8) -> u8
+        ensures { high result ≡ is_of b };
+
+    fn flag_eight(w: u64) -> u64
+        ensures { result ≡ flags w };
+
+    ghost told: { Tells flags is_of };
 }
 
-// Of at most so many bytes, and at least eight, the first eight and the last eight are all; eight are looked at in one step.
-const TWO_EIGHTS: usize = 16;
+// 128 or more.
+struct High;
 
-// Of at most so many, and at least sixteen, the first and the last sixteen are.
-const FOUR_EIGHTS: usize = 32;
+impl Kind for High {
+    ghost is_of = { high };
+
+    ghost flags = { λ w. w };
+
+    ghost told = { high_told };
+
+    fn flag(b: u8) -> u8 {
+        b
+    }
+
+    fn flag_eight(w: u64) -> u64 {
+        w
+    }
+}
+
+// No digit.
+struct NoDigit;
+
+impl Kind for NoDigit {
+    ghost is_of = { no_digit };
+
+    ghost flags = { others_of 8 };
+
+    ghost told = { no_digit_told };
+
+    fn flag(b: u8) -> u8 {
+        if is_digit(b) { 0 } else { 128 }
+    }
+
+    // Where bytes differ from 48, bit by bit, digits are 0 to 9, so 118 more is below 128; the bit of 128 is left out of that sum, so
+    // that no byte reaches into the next, and put back after it.
+    #[tactic(auto, unfolding(crate::specs::inner::Flags::others_of))]
+    fn flag_eight(w: u64) -> u64 {
+        let t = w ^ 0x3030303030303030;
+        ((t & 0x7f7f7f7f7f7f7f7f) + 0x7676767676767676) | t
+    }
+}
 
 // The bit of 128 of each of eight bytes.
 const HIGH_BITS: u64 = 0x8080808080808080;
 
-// Whether one of eight bytes is 128 or more.
-fn eight_high(s: &[u8], i: usize) -> bool
-    requires { i + 8 ≤ length s.now }
-    ensures { result ≡ has_high (take 8 (drop i s.now)) }
+// Whether one of eight bytes is of the kind.
+#[tactic(auto, using(crate::proofs::Words::word_is))]
+fn in_eight<K: Kind>(bytes: &[u8; 8]) -> bool
+    ensures { result ≡ list_any K.is_of bytes.now }
 {
-    word_at(s, i) & HIGH_BITS != 0
+    K::flag_eight(u64::from_le_bytes(*bytes)) & HIGH_BITS != 0
 }
 
-// The same of sixteen.
-fn sixteen_high(s: &[u8], i: usize) -> bool
-    requires { i + 16 ≤ length s.now }
-    ensures { result ≡ has_high (take 16 (drop i s.now)) }
+// Of at least eight bytes and at most sixteen, the first eight and the last eight are all.
+fn in_two_eights<K: Kind>(s: &[u8]) -> bool
+    requires { (8 ≤ length s.now) × (length s.now ≤ 16) }
+    ensures { result ≡ list_any K.is_of s.now }
 {
-    eight_high(s, i) | eight_high(s, i + 8)
+    let first = s.first_chunk().unwrap();
+    let last = s.last_chunk().unwrap();
+    in_eight::<K>(first) | in_eight::<K>(last)
 }
 
-// Whether a byte of 128 or more stands anywhere. Most references have 8 to 16 bytes, and none has more than 27.
+// Of any bytes: all flags together, bit by bit, have the bit of 128 exactly if one of them has. The pass goes to the end in any case:
+// one with no exit is compiled into wide steps.
+#[tactic(auto, using(crate::proofs::Words::together, std::proofs::lemmas::List::Folds::list_any_more))]
+fn in_each<K: Kind>(s: &[u8]) -> bool
+    ensures { result ≡ list_any K.is_of s.now }
+{
+    let mut all = 0;
+    for b in s {
+        all |= K::flag(*b);
+    }
+    128 <= all
+}
+
+// Most references have 8 to 16 bytes, and none has more than 27. Fewer than eight have an arm of their own, whose loop is unrolled.
+fn has<K: Kind>(s: &[u8]) -> bool
+    ensures { result ≡ list_any K.is_of s.now }
+{
+    let n = s.len();
+    match n {
+        0..=7 => in_each::<K>(s),
+        8..=16 => in_two_eights::<K>(s),
+        17..=32 => in_two_eights::<K>(&s[..16]) | in_two_eights::<K>(&s[n - 16..]),
+        _ => in_each::<K>(s),
+    }
+}
+
+// Whether a byte of 128 or more stands anywhere.
+#[tactic(auto, using(crate::proofs::Words::high_is))]
 pub fn has_high(s: &[u8]) -> bool
     ensures { result ≡ has_high s.now }
 {
-    let n = s.len();
-    if n < 8 {
-        return has_high_in(s);
-    }
-    if n <= TWO_EIGHTS {
-        return eight_high(s, 0) | eight_high(s, n - 8);
-    }
-    if n <= FOUR_EIGHTS {
-        return sixteen_high(s, 0) | sixteen_high(s, n - 16);
-    }
-    has_high_in(s)
-}
-
-// ---- digits
-
-// Whether every byte is a digit. The pass goes to the end in any case, like has_high_in's.
-fn all_digits_in(s: &[u8]) -> bool
-    ensures { result ≡ all_digits s.now }
-{
-    let mut all = true;
-    let mut i = 0;
-    while i < s.len() {
-        all = all & is_digit(s[i]);
-        i += 1;
-    }
-    all
-}
-
-// Of eight bytes as one number, a byte of 128 or more for each that is no digit. Where they differ from 48, bit by bit, digits are 0
-// to 9, so 118 more is below 128; the bit of 128 is left out of that sum, so that no byte reaches into the next, and put back after it.
-fn others(w: u64) -> u64
-    ensures { result ≡ others_of 8 w }
-{
-    let t = w ^ 0x3030303030303030;
-    ((t & 0x7f7f7f7f7f7f7f7f) + 0x7676767676767676) | t
-}
-
-// Whether eight bytes are digits.
-fn eight_digits(s: &[u8], i: usize) -> bool
-    requires { i + 8 ≤ length s.now }
-    ensures { result ≡ all_digits (take 8 (drop i s.now)) }
-{
-    others(word_at(s, i)) & HIGH_BITS == 0
-}
-
-// The same of sixteen.
-fn sixteen_digits(s: &[u8], i: usize) -> bool
-    requires { i + 16 ≤ length s.now }
-    ensures { result ≡ all_digits (take 16 (drop i s.now)) }
-{
-    eight_digits(s, i) & eight_digits(s, i + 8)
+    has::<High>(s)
 }
 
 // Whether every byte is a digit.
+#[tactic(auto, using(crate::proofs::Words::digits_are))]
 pub fn all_digits(s: &[u8]) -> bool
     ensures { result ≡ all_digits s.now }
 {
-    let n = s.len();
-    if n < 8 {
-        return all_digits_in(s);
-    }
-    if n <= TWO_EIGHTS {
-        return eight_digits(s, 0) & eight_digits(s, n - 8);
-    }
-    if n <= FOUR_EIGHTS {
-        return sixteen_digits(s, 0) & sixteen_digits(s, n - 16);
-    }
-    all_digits_in(s)
+    !has::<NoDigit>(s)
 }

@@ -1,90 +1,87 @@
-// Writes a reference: the parts of a point to bytes in a lent buffer, or the number of the rule that forbids it.
+// Writes a reference: the parts of a point to bytes in a lent buffer, or the rule that forbids it.
 #![tactic(auto)]
 
 ghost use Rattle.std.specs.Prelude.{◌≡◌, ◌+◌, ◌≤◌, length};
-ghost use Rattle.std.proofs.lemmas.List.Edits.{sets};
 ghost use Rattle.whole.specs.Floor.{fold};
 ghost use Rattle.runs.specs.Runs.{last_digits};
 ghost use Rattle.writer.specs.Text.{head_text, block_text, full_text};
 ghost use Rattle.writer.specs.inner.Lengths.{head_length};
 ghost use Rattle.writer.specs.Write.{fit_of, leaves_of, write_of, write_leaves};
 
-use composer::Composed;
-use position::Parts;
+use composer::{BareZone, Reference};
+use position::{Parts, Position};
+use rules::Refusal;
 
-// The last `count` digits of a number, from a place on; the last two of them first.
-fn put_digits(out: &mut [u8], at: usize, count: usize, number: u64)
-    requires { at + count ≤ length out.old }
-    ensures { out.new ≡ sets out.old at (last_digits count number) }
+// A number's last digits, as many as there is room for: the last two first, and the first one by itself where their count is odd.
+// Kept: a range of the pairs, since no contract says what the chunks of `rchunks_exact_mut` leave in the slice; and pairs, since one
+// digit a step costs more instructions.
+#[tactic(auto, unfolding(runs::specs::Runs::last_digits), using(crate::proofs::Stores::digit_step))]
+fn put_digits(out: &mut [u8], number: u64)
+    ensures { out.new ≡ last_digits (length out.old) number }
 {
-    let mut k = count;
+    let odd = out.len() % 2;
     let mut rest = number;
-    while 2 <= k {
-        k -= 2;
+    for k in (0..out.len() / 2).rev() {
+        let at = odd + 2 * k;
         let two = rest % 100;
-        out[at + k + 1] = b'0' + (two % 10) as u8;
-        out[at + k] = b'0' + (two / 10) as u8;
-        rest = rest / 100;
+        out[at + 1] = b'0' + (two % 10) as u8;
+        out[at] = b'0' + (two / 10) as u8;
+        rest /= 100;
     }
-    if 0 < k {
-        out[at] = b'0' + (rest % 10) as u8;
+    if 0 < odd {
+        out[0] = b'0' + (rest % 10) as u8;
     }
 }
 
 // How long a zone and its band are.
+#[tactic(auto, unfolding(crate::specs::inner::Lengths::head_length))]
 fn head_length(zone: i64) -> usize
     ensures { result ≡ head_length zone }
 {
-    if zone < 1 {
-        return 1;
-    }
-    3
+    if zone < 1 { 1 } else { 3 }
 }
 
-// The zone and its band, at the front.
+// The zone and its band.
+#[tactic(auto, using(crate::proofs::Stores::ups_length, crate::proofs::Stores::utm_length))]
 fn put_head(out: &mut [u8], zone: i64, band: u8)
-    requires { head_length zone ≤ length out.old }
-    ensures { out.new ≡ sets out.old 0 (head_text zone band) }
+    requires { length out.old ≡ head_length zone }
+    ensures { out.new ≡ head_text zone band }
 {
     if zone < 1 {
         out[0] = band;
     } else {
-        put_digits(out, 0, 2, whole::fold_of(zone));
+        put_digits(&mut out[..2], whole::fold_of(zone));
         out[2] = band;
     }
 }
 
-// The length written, or the rule that forbade it: nothing is written then.
-#[derive(Clone, Copy)]
-pub enum Written {
-    Length(usize),
-    Refused(u64),
-}
-
-fn put_bare(zone: i64, band: u8, out: &mut [u8]) -> Written
-    ensures { (result ≡ fit_of (head_text zone band) (length out.old)) × (out.new ≡ leaves_of (head_text zone band) out.old) }
+// Nothing is written where the buffer is too short.
+fn put_bare(bare: BareZone, out: &mut [u8]) -> Result<usize, Refusal>
+    ensures { (result ≡ fit_of (head_text bare.zone bare.band) (length out.old)) × (out.new ≡ leaves_of (head_text bare.zone bare.band) out.old) }
 {
-    let size = head_length(zone);
+    let size = head_length(bare.zone);
     let short = out.len() < size;
     if short {
-        return Written::Refused(20);
+        return Err(Refusal::ShortOutput);
     }
-    put_head(out, zone, band);
-    Written::Length(size)
+    put_head(&mut out[..size], bare.zone, bare.band);
+    Ok(size)
 }
 
 // The letters and digits of a reference after its band.
-fn put_block(out: &mut [u8], at: usize, p: usize, parts: Parts)
-    requires { (p ≡ fold parts.p) × (p ≤ 11) × (at + 2 + p + p ≤ length out.old) }
-    ensures { out.new ≡ sets out.old at (block_text parts) }
+fn put_block(out: &mut [u8], parts: Parts)
+    requires { length out.old ≡ 2 + fold parts.p + fold parts.p }
+    ensures { out.new ≡ block_text parts }
 {
-    out[at] = parts.column;
-    out[at + 1] = parts.row;
-    put_digits(out, at + 2, p, parts.easting);
-    put_digits(out, at + 2 + p, p, parts.northing);
+    let middle = 2 + whole::fold_of(parts.p) as usize;
+    out[0] = parts.column;
+    out[1] = parts.row;
+    put_digits(&mut out[2..middle], parts.easting);
+    put_digits(&mut out[middle..], parts.northing);
 }
 
-fn put_full(parts: Parts, out: &mut [u8]) -> Written
+#[tactic(auto, using(crate::proofs::Stores::length_le))]
+fn put_full(parts: Parts, out: &mut [u8]) -> Result<usize, Refusal>
     requires { fold parts.p ≤ 11 }
     ensures { (result ≡ fit_of (full_text parts) (length out.old)) × (out.new ≡ leaves_of (full_text parts) out.old) }
 {
@@ -93,28 +90,20 @@ fn put_full(parts: Parts, out: &mut [u8]) -> Written
     let n = head + 2 + p + p;
     let fits = n <= out.len();
     if fits {
-        put_head(out, parts.zone, parts.band);
-        put_block(out, head, p, parts);
-        return Written::Length(n);
+        put_head(&mut out[..head], parts.zone, parts.band);
+        put_block(&mut out[head..n], parts);
+        return Ok(n);
     }
-    Written::Refused(20)
+    Err(Refusal::ShortOutput)
 }
 
-// Writes a point's reference at the buffer's front.
-pub fn write(
-    zone: i64,
-    north: bool,
-    band: u8,
-    p: i64,
-    easting: i64,
-    northing: i64,
-    out: &mut [u8],
-) -> Written
-    ensures { (result ≡ write_of zone north band p easting northing (length out.old)) × (out.new ≡ write_leaves zone north band p easting northing out.old) }
+// Writes a point's reference at the buffer's front: its length, or the rule that forbids it, and then nothing is written.
+#[tactic(auto, unfolding(crate::specs::Write::write_of, crate::specs::Write::write_leaves))]
+pub fn write(q: Position, out: &mut [u8]) -> Result<usize, Refusal>
+    ensures { (result ≡ write_of q.zone q.north q.band q.p q.easting q.northing (length out.old)) × (out.new ≡ write_leaves q.zone q.north q.band q.p q.easting q.northing out.old) }
 {
-    match composer::compose(zone, north, band, p, easting, northing) {
-        Composed::Full(parts) => put_full(parts, out),
-        Composed::Bare(bare) => put_bare(bare.zone, bare.band, out),
-        Composed::Refused(k) => Written::Refused(k),
+    match composer::compose(q)? {
+        Reference::Full(parts) => put_full(parts, out),
+        Reference::Bare(bare) => put_bare(bare, out),
     }
 }

@@ -1,11 +1,11 @@
 -- The band of a latitude and the zone of a latitude and a longitude: document 01, "Smaller services".
 -- "Latitude and longitude are signed 64-bit billionths of a degree." A number below 0, -(n + 1), is `negsuc n`. Assumes nothing.
-use Rattle.std.specs.Prelude.{Bool, cond, ◌&&◌, ℤ, pos, negsuc, ◌+ℤ◌, ◌-ℤ◌, ◌*ℤ◌}
+use Rattle.std.specs.Prelude.{Bool, cond, ◌&&◌, Result, Ok, Err, ℤ, pos, negsuc, ◌+ℤ◌, ◌-ℤ◌, ◌*ℤ◌}
 use Rattle.std.specs.Int.Signed.{lt_z, le_z}
 use Rattle.whole.specs.Floor.{floor_div, floor_mod}
 use Rattle.whole.specs.Compare.{is_number}
-use Rattle.zones.specs.declared.ZoneAnswer.{ZoneAnswer}
-use Rattle.zones.specs.declared.ZoneAnswer.TheVariants.{Zone, Refused}
+use Rattle.rules.specs.declared.Refusal.{Refusal}
+use Rattle.rules.specs.declared.Refusal.TheVariants.{LatitudeOut}
 
 -- "floor to degrees"
 unfoldable pub degrees : ℤ → ℤ
@@ -43,10 +43,10 @@ unfoldable pub zone_at : ℤ → ℤ → ℤ
 zone_at b d = cond (norway b (plain d) d) (pos 32) (cond (arctic b d) (svalbard d) (plain d))
 
 -- "22 if latitude is outside -90..90. From -80 to below 84 UTM, else zone 0."
-unfoldable pub zone_of : ℤ → ℤ → ZoneAnswer
+unfoldable pub zone_of : ℤ → ℤ → Result ℤ Refusal
 zone_of latitude longitude =
-    cond (lt_z latitude (negsuc 89999999999)) (Refused 22)
-    (cond (lt_z (pos 90000000000) latitude) (Refused 22)
-    (cond (lt_z latitude (negsuc 79999999999)) (Zone (pos 0))
-    (cond (le_z (pos 84000000000) latitude) (Zone (pos 0))
-    (Zone (zone_at (band_of latitude) (turned (degrees longitude)))))))
+    cond (lt_z latitude (negsuc 89999999999)) (Err LatitudeOut)
+    (cond (lt_z (pos 90000000000) latitude) (Err LatitudeOut)
+    (cond (lt_z latitude (negsuc 79999999999)) (Ok (pos 0))
+    (cond (le_z (pos 84000000000) latitude) (Ok (pos 0))
+    (Ok (zone_at (band_of latitude) (turned (degrees longitude)))))))

@@ -4,7 +4,10 @@
 ghost use Rattle.std.specs.Prelude.{◌≡◌, pos, negsuc, ◌≤ℤ◌};
 ghost use Rattle.zones.specs.Zones.{degrees, band_of, turned, plain, norway, arctic, svalbard, zone_at, zone_of};
 
+use rules::Refusal;
+
 // Whole degrees, rounded down.
+#[tactic(auto, unfolding(crate::specs::Zones::degrees))]
 fn degrees_of(billionths: i64) -> i64
     ensures { result ≡ degrees billionths }
 {
@@ -18,100 +21,85 @@ pub fn to_latitude_band(latitude: i64) -> i64
 {
     let d = degrees_of(latitude);
     if d < -72 {
-        return -10;
+        -10
+    } else if 72 <= d {
+        9
+    } else {
+        whole::floor_div(d, 8)
     }
-    if 72 <= d {
-        return 9;
-    }
-    whole::floor_div(d, 8)
 }
 
 // Whole degrees of longitude, brought to -180..179.
-fn turned_degrees(longitude: i64) -> i64
-    ensures { result ≡ turned (degrees longitude) }
+#[derive(Clone, Copy)]
+struct Meridian {
+    degrees: i64,
+    ghost in_range: { (negsuc 179 ≤ℤ degrees) × (degrees ≤ℤ pos 179) },
+}
+
+fn meridian_of(longitude: i64) -> Meridian
+    ensures { result.degrees ≡ turned (degrees longitude) }
 {
     let d = degrees_of(longitude);
-    whole::floor_mod(d + 180, 360) as i64 - 180
+    Meridian {
+        degrees: whole::floor_mod(d + 180, 360) as i64 - 180,
+    }
 }
 
 // Six degrees a zone, zone 1 from -180.
-fn plain_zone(d: i64) -> i64
-    requires { (negsuc 179 ≤ℤ d) × (d ≤ℤ pos 179) }
-    ensures { result ≡ plain d }
+#[tactic(auto, unfolding(crate::specs::Zones::plain))]
+fn plain_zone(m: Meridian) -> i64
+    ensures { result ≡ plain m.degrees }
 {
-    whole::floor_div(d + 186, 6)
+    whole::floor_div(m.degrees + 186, 6)
 }
 
 // Twelve degrees a zone around Svalbard, odd zones only.
-fn svalbard_zone(d: i64) -> i64
-    requires { (negsuc 179 ≤ℤ d) × (d ≤ℤ pos 179) }
-    ensures { result ≡ svalbard d }
+#[tactic(auto, unfolding(crate::specs::Zones::svalbard))]
+fn svalbard_zone(m: Meridian) -> i64
+    ensures { result ≡ svalbard m.degrees }
 {
-    whole::floor_div(d + 183, 12) * 2 + 1
+    whole::floor_div(m.degrees + 183, 12) * 2 + 1
 }
 
 // South-west Norway, where zone 32 reaches west to 3 degrees.
-fn is_norway(band: i64, zone: i64, d: i64) -> bool
-    ensures { result ≡ norway band zone d }
+fn is_norway(band: i64, zone: i64, m: Meridian) -> bool
+    ensures { result ≡ norway band zone m.degrees }
 {
-    if band == 7 {
-        if zone == 31 {
-            return 3 <= d;
-        }
-    }
-    false
+    band == 7 && zone == 31 && 3 <= m.degrees
 }
 
 // Around Svalbard, where zones 32, 34 and 36 have no ground.
-fn is_arctic(band: i64, d: i64) -> bool
-    ensures { result ≡ arctic band d }
+fn is_arctic(band: i64, m: Meridian) -> bool
+    ensures { result ≡ arctic band m.degrees }
 {
-    if band == 9 {
-        if 0 <= d {
-            return d <= 41;
-        }
-    }
-    false
+    band == 9 && 0 <= m.degrees && m.degrees <= 41
 }
 
 // The zone by band and turned degrees, with the two exceptions.
-fn zone_at(band: i64, d: i64) -> i64
-    requires { (negsuc 179 ≤ℤ d) × (d ≤ℤ pos 179) }
-    ensures { result ≡ zone_at band d }
+#[tactic(auto, unfolding(crate::specs::Zones::zone_at))]
+fn zone_at(band: i64, m: Meridian) -> i64
+    ensures { result ≡ zone_at band m.degrees }
 {
-    let zone = plain_zone(d);
-    if is_norway(band, zone, d) {
-        return 32;
+    let zone = plain_zone(m);
+    if is_norway(band, zone, m) {
+        32
+    } else if is_arctic(band, m) {
+        svalbard_zone(m)
+    } else {
+        zone
     }
-    if is_arctic(band, d) {
-        return svalbard_zone(d);
-    }
-    zone
 }
 
-// A zone, 0 for UPS, or a refusal's number: 22 is both.
-#[derive(Clone, Copy)]
-pub enum ZoneAnswer {
-    Zone(i64),
-    Refused(u64),
-}
-
-// The zone of a point: UTM from -80 to below 84 degrees, UPS beyond, 22 outside -90..90.
+// The zone of a point: UTM from -80 to below 84 degrees, zone 0 for UPS beyond.
 #[tactic(auto, unfolding(crate::specs::Zones::zone_of))]
-pub fn standard_zone(latitude: i64, longitude: i64) -> ZoneAnswer
+pub fn standard_zone(latitude: i64, longitude: i64) -> Result<i64, Refusal>
     ensures { result ≡ zone_of latitude longitude }
 {
-    if latitude < -90_000_000_000 {
-        return ZoneAnswer::Refused(22);
+    match latitude {
+        -80_000_000_000..84_000_000_000 => {
+            Ok(zone_at(to_latitude_band(latitude), meridian_of(longitude)))
+        }
+        -90_000_000_000..=90_000_000_000 => Ok(0),
+        _ => Err(Refusal::LatitudeOut),
     }
-    if 90_000_000_000 < latitude {
-        return ZoneAnswer::Refused(22);
-    }
-    if latitude < -80_000_000_000 {
-        return ZoneAnswer::Zone(0);
-    }
-    if 84_000_000_000 <= latitude {
-        return ZoneAnswer::Zone(0);
-    }
-    ZoneAnswer::Zone(zone_at(to_latitude_band(latitude), turned_degrees(longitude)))
 }

@@ -41,8 +41,8 @@ overflow_cast-result c = asks _ _ (tile c) (southern c).1
 pub returns-then-row-lt0 : goal.returns-then-row-lt0
 returns-then-row-lt0 c = gives _ _ (tile c)
 
-pub overflow_cast-result-2 : goal.overflow_cast-result-2
-overflow_cast-result-2 c = asks _ _ (to_z-of_z c.ranges.row ∙ (northern c).0) (northern c).1
+pub overflow_cast-result-else-row-lt0 : goal.overflow_cast-result-else-row-lt0
+overflow_cast-result-else-row-lt0 c = asks _ _ (to_z-of_z c.ranges.row ∙ (northern c).0) (northern c).1
 
-pub returns : goal.returns
-returns c = gives _ _ (to_z-of_z c.ranges.row ∙ (northern c).0)
+pub returns-else-row-lt0 : goal.returns-else-row-lt0
+returns-else-row-lt0 c = gives _ _ (to_z-of_z c.ranges.row ∙ (northern c).0)

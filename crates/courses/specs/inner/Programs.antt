@@ -1,7 +1,9 @@
 -- What the functions of a program keep to, so that its buffers and its run are at any time those of a course. Assumes nothing.
-use Rattle.std.specs.Prelude.{◌≡◌, false, List, ℕ, ◌+◌, ◌≤◌, length, take}
+use Rattle.std.specs.Prelude.{◌≡◌, ◌≢◌, Bool, true, false, List, ℕ, ◌+◌, ◌≤◌, length, take, Result, Ok, Err}
 use Rattle.lines.specs.declared.Run.{Run}
 use Rattle.lines.specs.inner.Steps.{received_run, written_run}
+use Rattle.courses.specs.declared.Failure.{Failure}
+use Rattle.courses.specs.declared.Failure.TheVariants.{Unread, Unwritten}
 use Rattle.courses.specs.Courses.{Course, Ending}
 
 -- The buffers and the run are those of a course, and these bytes were read and written in it.
@@ -29,10 +31,14 @@ pub record Closed (buf out : List ℕ) (run : Run) : Type 0 where
 
 -- The three ways in which a whole run stops: a write failed; the input ended, and all of it is listed and written; a read
 -- failed, and all lines that had ended are.
-pub data Stops (buf out : List ℕ) (run : Run) : ℕ → Type 0 where
-  unwritten : Stops buf out run 1
-  through : Closed buf out run → Stops buf out run 2
-  unread : Answered buf out run → Stops buf out run 3
+pub data Stops (buf out : List ℕ) (run : Run) : Result (Unit {0}) Failure → Type 0 where
+  unwritten : Stops buf out run (Err Unwritten)
+  through : Closed buf out run → Stops buf out run (Ok tt)
+  unread : Answered buf out run → Stops buf out run (Err Unread)
+
+-- Nothing more is read: no more may come, as the input has ended, or a read failed.
+abbrev pub ReadsNoMore : Result Bool Failure → Type 0
+ReadsNoMore r = (r ≢ Ok true) × (r ≢ Err Unwritten)
 
 -- One read: the bytes that wait stay, and `received` is told how many stand behind them.
 pub record Delivered (before after : List ℕ) (run r : Run) : Type 0 where

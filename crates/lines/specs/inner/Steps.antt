@@ -1,10 +1,12 @@
 -- What a call lists of the bytes that wait, by the room that it has. Assumes nothing.
-use Rattle.std.specs.Prelude.{Bool, true, false, cond, List, [], ◌∷◌, ◌++◌, ◌≡◌, ℕ, zero, suc, ◌+◌, ◌-◌, min, eqb, ltb, length, take, drop}
-use Rattle.reader.specs.declared.Answer.{Answer}
+use Rattle.std.specs.Prelude.{Bool, true, false, cond, List, [], ◌∷◌, ◌++◌, ◌≡◌, ℕ, zero, suc, ◌+◌, ◌-◌, ◌<◌, ◌≤◌, min, eqb, ltb, Option, Some, None, length, take, drop, Result}
 use Rattle.listing.specs.declared.Form.{Form}
 use Rattle.listing.specs.Listing.{read_by, line_of}
 use Rattle.lines.specs.declared.Run.{Run}
 use Rattle.lines.specs.Lines.{ended}
+use Rattle.rules.specs.declared.Refusal.{Refusal}
+use Rattle.reader.specs.declared.Reading.{Reading}
+use Rattle.position.specs.declared.Position.{Position}
 
 -- ---- numbers, with a top
 
@@ -21,7 +23,7 @@ number_after zero n = n
 number_after (suc k) n = number_after k (next_of n)
 
 -- `numbered`, but for the top.
-unfoldable pub counted : (List ℕ → Answer) → ℕ → List (List ℕ) → List ℕ
+unfoldable pub counted : (List ℕ → Result (Reading Position) Refusal) → ℕ → List (List ℕ) → List ℕ
 counted read n [] = []
 counted read n (l ∷ ls) = line_of read n l ++ counted read (next_of n) ls
 
@@ -38,21 +40,21 @@ last_of (b ∷ s) = (b ∷ s) ∷ []
 
 -- ---- as many lines as have room, in order
 
-unfoldable pub fit : (List ℕ → Answer) → ℕ → ℕ → List (List ℕ) → ℕ
+unfoldable pub fit : (List ℕ → Result (Reading Position) Refusal) → ℕ → ℕ → List (List ℕ) → ℕ
 fit read room n [] = zero
 fit read room n (l ∷ ls) =
     cond (ltb room (length (line_of read n l))) zero (suc (fit read (room - length (line_of read n l)) (next_of n) ls))
 
 -- Their answers,
-unfoldable pub answers_of : (List ℕ → Answer) → ℕ → ℕ → List (List ℕ) → List ℕ
+unfoldable pub answers_of : (List ℕ → Result (Reading Position) Refusal) → ℕ → ℕ → List (List ℕ) → List ℕ
 answers_of read room n ls = counted read n (take (fit read room n ls) ls)
 
 -- the bytes that they take in the input,
-unfoldable pub taken_of : (List ℕ → Answer) → ℕ → ℕ → List (List ℕ) → ℕ
+unfoldable pub taken_of : (List ℕ → Result (Reading Position) Refusal) → ℕ → ℕ → List (List ℕ) → ℕ
 taken_of read room n ls = length (joined (take (fit read room n ls) ls))
 
 -- the next number,
-unfoldable pub number_past : (List ℕ → Answer) → ℕ → ℕ → List (List ℕ) → ℕ
+unfoldable pub number_past : (List ℕ → Result (Reading Position) Refusal) → ℕ → ℕ → List (List ℕ) → ℕ
 number_past read room n ls = number_after (fit read room n ls) n
 
 unfoldable pub some : List (List ℕ) → Bool
@@ -60,41 +62,35 @@ some [] = false
 some (l ∷ ls) = true
 
 -- and whether a line is left.
-unfoldable pub left_of : (List ℕ → Answer) → ℕ → ℕ → List (List ℕ) → Bool
+unfoldable pub left_of : (List ℕ → Result (Reading Position) Refusal) → ℕ → ℕ → List (List ℕ) → Bool
 left_of read room n ls = some (drop (fit read room n ls) ls)
 
 -- ---- buffers
-
--- A text where it has room, and else nothing.
-unfoldable pub fitting : ℕ → List ℕ → List ℕ
-fitting room t = cond (ltb room (length t)) [] t
 
 -- A buffer with a text at a place, all else as it was.
 unfoldable pub wrote : List ℕ → ℕ → List ℕ → List ℕ
 wrote out at t = take at out ++ (t ++ drop (at + length t) out)
 
--- ---- what two private functions answer and leave
-
--- One text put at a place, where it has room.
-abbrev pub PutAt : (t out : List ℕ) (at : ℕ) → (full : Bool) (used : ℕ) (exit : List ℕ) → Type 0
-PutAt t out at full used exit =
-    (full ≡ ltb (length out - at) (length t)) × (used ≡ at + length (fitting (length out - at) t)) × (exit ≡ wrote out at (fitting (length out - at) t))
-
--- The lines that end in a block listed from a place on, the first under the number n, as many as have room.
-abbrev pub ListedAt : (List ℕ → Answer) → (block : List ℕ) (n : ℕ) (out : List ℕ) (at : ℕ) → (taken number used : ℕ) (more : Bool) (exit : List ℕ) → Type 0
-ListedAt read block n out at taken number used more exit =
-    (taken ≡ taken_of read (length out - at) n (ended block)) × (number ≡ number_past read (length out - at) n (ended block))
-    × (used ≡ at + length (answers_of read (length out - at) n (ended block))) × (more ≡ left_of read (length out - at) n (ended block))
-    × (exit ≡ wrote out at (answers_of read (length out - at) n (ended block)))
+-- One text put at a place, where it has room: where it ends, and what the buffer then holds.
+abbrev pub PutAt : (t out : List ℕ) (at : ℕ) → Option ℕ → (exit : List ℕ) → Type 0
+PutAt t out at (Some used) exit = (length t ≤ length out - at) × (used ≡ at + length t) × (exit ≡ wrote out at t)
+PutAt t out at None exit = (length out - at < length t) × (exit ≡ out)
 
 -- ---- a step
 
-abbrev pub reader_of : Run → List ℕ → Answer
+abbrev pub reader_of : Run → List ℕ → Result (Reading Position) Refusal
 reader_of run = read_by run.form
 
 -- The state of the same run at another place.
 abbrev pub moved_run : Run → (number from end used : ℕ) (more : Bool) → Run
 moved_run run number from end used more = record { form = run.form; number = number; from = from; end = end; sent = run.sent; used = used; more = more }
+
+-- Its places, none of them past a buffer's end.
+abbrev pub within_run : (size room : ℕ) → Run → Run
+within_run size room run = moved_run run run.number (min run.from (min run.end size)) (min run.end size) (min run.used room) run.more
+
+abbrev pub Within : (buf out : List ℕ) → Run → Type 0
+Within buf out run = (run.from ≤ run.end) × (run.end ≤ length buf) × (run.used ≤ length out)
 
 -- The bytes that wait to be listed.
 unfoldable pub pending_of : List ℕ → Run → List ℕ
@@ -116,6 +112,16 @@ step_size buf out run = taken_of (reader_of run) (room_of out run) run.number (e
 
 unfoldable pub step_more : List ℕ → List ℕ → Run → Bool
 step_more buf out run = left_of (reader_of run) (room_of out run) run.number (ended (pending_of buf run))
+
+-- A run within its buffers, behind the lines that had room.
+unfoldable pub listed_run : List ℕ → List ℕ → Run → Run
+listed_run buf out run =
+    moved_run run
+    (number_past (reader_of run) (room_of out run) run.number (ended (pending_of buf run)))
+    (run.from + step_size buf out run)
+    run.end
+    (run.used + length (step_text buf out run))
+    (step_more buf out run)
 
 -- What is not listed: of an open line 65 bytes say enough.
 unfoldable pub rest_of : List ℕ → List ℕ → Run → List ℕ

@@ -1,21 +1,16 @@
 -- `list::list_all` meets its contract: at the end of the input by `close`, after a read that failed by `answers`.
 -- Assumes nothing.
-use native.Mathlib.Omega.{arith}
-use Rattle.courses.specs.inner.Programs.{unwritten, unread}
-use Rattle.courses.proofs.Programs.{waits, answers, stops}
+use Rattle.courses.specs.inner.Programs.{unread}
+use Rattle.courses.proofs.Programs.{start_reached, waits, answers}
 use Rattle.list.proofs.list_all.Goals as goal
 
-pub close-requires-clause-reached : goal.close-requires-clause-reached
-close-requires-clause-reached g c = c.read_all-end.ensures.0
+pub read_all-requires-clause-reached : goal.read_all-requires-clause-reached
+read_all-requires-clause-reached g c = start_reached _ _ _ _ c.requires.started
 
 pub send_all-requires : goal.send_all-requires
-send_all-requires g c = waits c.read_all-end.ensures.0
+send_all-requires g c = waits c.read_all.ensures.reached
 
-pub returns-then-end-eq-UNREAD : goal.returns-then-end-eq-UNREAD
-returns-then-end-eq-UNREAD g c =
-    let a = c.read_all-end.ensures in
-    stops _ _ _ _ _ 3 _ c.because.ensures
-    (λ e. unread (answers _ _ _ _ a.0 (a.1 (omega (arith, c.if-end-eq-UNREAD.true))) c.send_all.ensures.0 (c.send_all.ensures.3 e)))
-
-pub returns : goal.returns
-returns g c = unwritten
+pub returns-in_ok-send_all-in-Err-Unread : goal.returns-in_ok-send_all-in-Err-Unread
+returns-in_ok-send_all-in-Err-Unread g c =
+    let a = c.in-Err-Unread.ensures in
+    unread (answers _ _ _ _ a.reached (a.last (λ e. cc)) c.send_all.ensures.sent c.in_ok-send_all-in-Err-Unread.ensures.ok)

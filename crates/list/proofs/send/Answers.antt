@@ -3,5 +3,8 @@
 use Rattle.courses.proofs.Programs.{written_sent, written_waits}
 use Rattle.list.proofs.send.Goals as goal
 
-pub returns : goal.returns
-returns g c = (written_sent _ _ _ c.written-run.ensures, written_waits _ _ _ _ c.requires c.written-run.ensures, c.after_write-how.ensures)
+pub returns-clause-sent : goal.returns-clause-sent
+returns-clause-sent g c = written_sent _ _ _ c.written.ensures
+
+pub returns-clause-waits : goal.returns-clause-waits
+returns-clause-waits g c = written_waits _ _ _ _ c.requires c.written.ensures

@@ -5,10 +5,8 @@ use lib.IntN.{ℤ}
 use lib.ListN.{length}
 use mir.Syntax.{w64}
 use mir.Facts.{to_z-of_z, to_z_pos}
-use Rattle.whole.proofs.Signed.{back}
 use Rattle.squares.specs.Shorten.{short_of, short_leaves}
-use Rattle.refusals.proofs.Refusals.{shortening, short_refusals}
-use Rattle.refusals.proofs.Room.{as_byte, short_room, length_fits}
+use Rattle.refusals.proofs.Room.{short_room, length_fits}
 use Rattle.numbers.proofs.shorten.Goals as goal
 use Rattle.numbers.proofs.shorten.Goals.{After-shorten}
 
@@ -21,18 +19,9 @@ answer c =
 
 pub overflow_cast-result : goal.overflow_cast-result
 overflow_cast-result c =
-    length_fits _ _ c.well_formed.1.1.0.1 (short_room _ _ _ _ (sym (answer (goal.at.overflow_cast-result c).After-shorten).0 ∙ c.in-Length.is))
+    length_fits _ _ c.well_formed.1.1.0.1 (short_room _ _ _ _ (sym (answer (goal.at.overflow_cast-result c).After-shorten).0 ∙ c.in-Ok.is))
 
-pub overflow_cast-k : goal.overflow_cast-k
-overflow_cast-k c =
-    as_byte shortening c.in-Refused.k tt (short_refusals _ _ _ _ (sym (answer (goal.at.overflow_cast-k c).After-shorten).0 ∙ c.in-Refused.is))
-
-pub returns-in-Length : goal.returns-in-Length
-returns-in-Length c =
-    let a = answer (goal.at.returns-in-Length c).After-shorten in
-    rw (sym a.0 ∙ c.in-Length.is) (to_z_pos w64 (overflow_cast-result c).sfits, a.1)
-
-pub returns-in-Refused : goal.returns-in-Refused
-returns-in-Refused c =
-    let a = answer (goal.at.returns-in-Refused c).After-shorten in
-    rw (sym a.0 ∙ c.in-Refused.is) (back _ _ c.refused.type_inv c.refused.ensures, a.1)
+pub returns-in-Ok : goal.returns-in-Ok
+returns-in-Ok c =
+    let a = answer (goal.at.returns-in-Ok c).After-shorten in
+    rw (sym a.0 ∙ c.in-Ok.is) (to_z_pos w64 (overflow_cast-result c).sfits, a.1)

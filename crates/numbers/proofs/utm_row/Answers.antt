@@ -8,14 +8,17 @@ use borrow.Author.Tests.{ltb-true}
 use lib.IntN.{ℤ, pos, negsuc}
 use lib.Signed.{lt_z}
 use mir.Syntax.{w64}
+use mir.Val.{to_z, of_z}
 use mir.Facts.{to_z-of_z}
 use Rattle.whole.proofs.Parts.{up, dn, lt_no, sfits_up}
 use Rattle.whole.proofs.Signed.{is_count, cast_asks, cast_gives}
-use Rattle.rows.specs.declared.RowAnswer.{RowAnswer}
 use Rattle.rows.specs.Resolve.{resolve}
 use Rattle.numbers.specs.Numbers.{row_number, row_of}
+use borrow.Author.Rules.{rules}
 use Rattle.numbers.proofs.utm_row.Goals as goal
+use Rattle.numbers.proofs.utm_row.Goals.{then-column-lt0-via-then-column-lt0, then-column-lt0-via-else-column-lt0+then-letter-lt0}
 use Rattle.numbers.proofs.utm_row.Goals.{After-utm_row, Else-letter-lt0}
+use Rattle.std.specs.Prelude.{Option}
 
 -- no column is negative, nor is a letter
 no_column : (b c l : ℤ) → lt_z c (pos 0) ≡ true → pos 100 ≡ row_of b c l
@@ -32,7 +35,7 @@ counted : (z : ℤ) → lt_z z (pos 0) ≡ false → z ≡ pos (up z)
 unfolding up dn
 counted z t = let h = lt_no z (pos 0) t in is_count z (omega arith)
 
-by_counts : (b c l : ℤ) (i j : ℕ) (a : RowAnswer) → c ≡ pos i → l ≡ pos j → resolve 0 b i j ≡ a → row_number a ≡ row_of b c l
+by_counts : (b c l : ℤ) (i j : ℕ) (a : Option ℤ) → c ≡ pos i → l ≡ pos j → resolve 0 b i j ≡ a → row_number a ≡ row_of b c l
 by_counts b c l i j a e f x = rw (e, f, x)
 
 column : (c : Else-letter-lt0) → c.args.column ≡ pos (up c.args.column)
@@ -42,10 +45,11 @@ letter : (c : Else-letter-lt0) → c.args.letter ≡ pos (up c.args.letter)
 letter c = counted c.args.letter (rw (to_z-of_z c.ranges.letter) at c.if-letter-lt0.false)
 
 pub returns-then-column-lt0 : goal.returns-then-column-lt0
-returns-then-column-lt0 c = no_column c.args.band c.args.column c.args.letter (rw (to_z-of_z c.ranges.column) at c.if-column-lt0.true)
-
-pub returns-then-letter-lt0 : goal.returns-then-letter-lt0
-returns-then-letter-lt0 c = no_letter c.args.band c.args.column c.args.letter (rw (to_z-of_z c.ranges.letter) at c.if-letter-lt0.true)
+returns-then-column-lt0 c =
+    elim c.then-column-lt0.branch [
+      | then-column-lt0-via-then-column-lt0 w ↦ no_column c.args.band c.args.column c.args.letter (rw (to_z-of_z c.ranges.column) at w.if-column-lt0.true)
+      | then-column-lt0-via-else-column-lt0+then-letter-lt0 w ↦ no_letter c.args.band c.args.column c.args.letter (rw (to_z-of_z c.ranges.letter) at w.if-letter-lt0.true)
+    ]
 
 pub overflow_cast-column : goal.overflow_cast-column
 overflow_cast-column c = cast_asks c.args.column _ (to_z-of_z c.ranges.column ∙ column c) (sfits_up w64 c.args.column c.ranges.column)
@@ -59,11 +63,8 @@ answer c =
     let j = cast_gives c.args.letter _ (to_z-of_z c.ranges.letter ∙ letter (goal.at.After-utm_row c).Else-letter-lt0) (sfits_up w64 c.args.letter c.ranges.letter) in
     rw (to_z-of_z c.ranges.band, i, j) at c.utm_row.ensures
 
-pub returns-in-Row : goal.returns-in-Row
-returns-in-Row c =
-    to_z-of_z {w = w64} {z = c.in-Row.found.row} (record { sfits = c.struct_told-1.given.0.1 })
-    ∙ by_counts c.args.band c.args.column c.args.letter _ _ _ (column (goal.at.returns-in-Row c).Else-letter-lt0) (letter (goal.at.returns-in-Row c).Else-letter-lt0) (sym (answer (goal.at.returns-in-Row c).After-utm_row) ∙ c.in-Row.is)
-
-pub returns-in-Nothing : goal.returns-in-Nothing
-returns-in-Nothing c =
-    by_counts c.args.band c.args.column c.args.letter _ _ _ (column (goal.at.returns-in-Nothing c).Else-letter-lt0) (letter (goal.at.returns-in-Nothing c).Else-letter-lt0) (sym (answer (goal.at.returns-in-Nothing c).After-utm_row) ∙ c.in-Nothing.is)
+pub returns : goal.returns
+returns c =
+    let e : to_z w64 (of_z w64 c.unwrap_or.result) ≡ c.unwrap_or.result = search rules in
+    e ∙ c.unwrap_or.ensures
+    ∙ by_counts c.args.band c.args.column c.args.letter _ _ _ (column (goal.at.returns c).Else-letter-lt0) (letter (goal.at.returns c).Else-letter-lt0) (sym (answer (goal.at.returns c).After-utm_row))

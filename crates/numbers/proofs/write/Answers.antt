@@ -4,10 +4,8 @@ use mathlib.Core.Path.{◌≡◌, sym, ◌∙◌}
 use lib.ListN.{length}
 use mir.Syntax.{w64}
 use mir.Facts.{to_z-of_z, to_z_pos}
-use Rattle.whole.proofs.Signed.{back}
 use Rattle.writer.specs.Write.{write_of, write_leaves}
-use Rattle.refusals.proofs.Refusals.{writing, write_refusals}
-use Rattle.refusals.proofs.Room.{as_byte, write_room, length_fits}
+use Rattle.refusals.proofs.Room.{write_room, length_fits}
 use Rattle.numbers.proofs.write.Goals as goal
 use Rattle.numbers.proofs.write.Goals.{After-write}
 
@@ -18,18 +16,9 @@ answer c =
 
 pub overflow_cast-result : goal.overflow_cast-result
 overflow_cast-result c =
-    length_fits _ _ c.well_formed.1.1.1.1.1.1.0.1 (write_room _ _ _ _ _ _ _ _ (sym (answer (goal.at.overflow_cast-result c).After-write).0 ∙ c.in-Length.is))
+    length_fits _ _ c.well_formed.1.1.1.1.1.1.0.1 (write_room _ _ _ _ _ _ _ _ (sym (answer (goal.at.overflow_cast-result c).After-write).0 ∙ c.in-Ok.is))
 
-pub overflow_cast-n : goal.overflow_cast-n
-overflow_cast-n c =
-    as_byte writing _ tt (write_refusals _ _ _ _ _ _ _ _ (sym (answer (goal.at.overflow_cast-n c).After-write).0 ∙ c.in-Refused.is))
-
-pub returns-in-Length : goal.returns-in-Length
-returns-in-Length c =
-    let a = answer (goal.at.returns-in-Length c).After-write in
-    rw (sym a.0 ∙ c.in-Length.is) (to_z_pos w64 (overflow_cast-result c).sfits, a.1)
-
-pub returns-in-Refused : goal.returns-in-Refused
-returns-in-Refused c =
-    let a = answer (goal.at.returns-in-Refused c).After-write in
-    rw (sym a.0 ∙ c.in-Refused.is) (back _ _ c.refused.type_inv c.refused.ensures, a.1)
+pub returns-in-Ok : goal.returns-in-Ok
+returns-in-Ok c =
+    let a = answer (goal.at.returns-in-Ok c).After-write in
+    rw (sym a.0 ∙ c.in-Ok.is) (to_z_pos w64 (overflow_cast-result c).sfits, a.1)

@@ -1,6 +1,6 @@
 -- `rows::candidate_of` meets its contract: what the place is above the base, and five rounds more, is a count.
 -- Assumes nothing.
-use mathlib.Core.Path.{◌≡◌}
+use mathlib.Core.Path.{◌≡◌, ap, ◌∙◌}
 use Prim.Native.Nat.{◌+◌, ◌%◌}
 use native.Mathlib.Omega.{arith}
 use lib.Dec.{lit<, lit≤}
@@ -10,10 +10,9 @@ use mir.Val.{SFits, to_z, of_z}
 use mir.Facts.{to_z-of_z, to_z_pos}
 use Rattle.whole.specs.Floor.{floor_mod}
 use Rattle.whole.proofs.Parts.{up}
-use Rattle.whole.proofs.Signed.{cast_asks}
 use Rattle.whole.proofs.Small.{Small, fits, computed, between, remainder}
 use Rattle.rows.specs.inner.Direct.{candidate_from}
-use Rattle.rows.proofs.Back.{base_fits, gap_fits, gap_count, gap_lt, gap_mod, candidate_fits}
+use Rattle.rows.proofs.Back.{base_fits, gap_fits, gap_count, gap_mod, candidate_fits}
 use Rattle.rows.proofs.candidate_of.Goals as goal
 use Rattle.rows.proofs.candidate_of.Goals.{Start}
 
@@ -40,15 +39,6 @@ gap s =
     let l = s.args.lowest in
     rw (place s, base s, to_z-of_z (gap_fits l (near s) s.args.place s.requires.2)) (gap_count l (near s) s.args.place s.requires.2)
 
-pub overflow_sub-base : goal.overflow_sub-base
-overflow_sub-base s = rw (low s) (base_fits s.args.lowest (near s))
-
-pub overflow_sub-gap : goal.overflow_sub-gap
-overflow_sub-gap s = rw (place s, base s) (gap_fits s.args.lowest (near s) s.args.place s.requires.2)
-
-pub overflow_cast-result : goal.overflow_cast-result
-overflow_cast-result s = cast_asks (written s) (up (between_of s)) (gap s) (gap_lt s.args.lowest (near s) s.args.place s.requires.2)
-
 small : (z : ℤ) → SFits w64 (pos (floor_mod z 20))
 small z = fits (remainder z (lit< tt)) (lit≤ tt)
 
@@ -58,8 +48,6 @@ sum s =
     let l = s.args.lowest in
     rw (gap s, base s, gap_mod l (near s) s.args.place s.requires.2, to_z_pos w64 (small (pos (s.args.place % 20) -ℤ (l -ℤ pos 1))).sfits)
 
-pub overflow_add-result : goal.overflow_add-result
-overflow_add-result s = rw (sum s) (candidate_fits s.args.lowest (near s) (s.args.place % 20))
-
 pub returns : goal.returns
-returns s = rw (sum s) (to_z-of_z (candidate_fits s.args.lowest (near s) (s.args.place % 20)))
+returns s =
+    ap (λ (z : ℤ). to_z w64 (of_z w64 z)) (sum s) ∙ to_z-of_z (candidate_fits s.args.lowest (near s) (s.args.place % 20))

@@ -7,9 +7,6 @@ use Rattle.rows.specs.Limits.{limits_of}
 use Rattle.rows.specs.inner.Direct.{pair_of}
 use Rattle.rows.proofs.pair_at.Goals as goal
 
-pub bounds-k-k : goal.bounds-k-k
-bounds-k-k c = c.requires
-
 pub returns : goal.returns
 unfolding limits_of
 returns c = row (λ k. pair_of (limits_of (pos k -ℤ pos 10))) _ 20 refl _ c.args.k c.requires

@@ -3,12 +3,11 @@
 use Rattle.std.specs.Prelude.{Bool, ◌&&◌, ◌||◌, ℕ, leb, ℤ, pos, ◌+ℤ◌, ◌-ℤ◌}
 use Rattle.whole.specs.Floor.{floor_mod}
 use Rattle.rows.specs.declared.Limits.{Limits}
-use Rattle.rows.specs.declared.Pair.{Pair}
 use Rattle.rows.specs.Allowed.{between, folded}
 
 -- Limits as the program's table holds them, a byte each.
-abbrev pub pair_of : Limits → Pair
-pair_of l = record { low = l.low; high = l.high }
+abbrev pub pair_of : Limits → ℤ × ℤ
+pair_of l = (l.low, l.high)
 
 -- The same where the band's limits are at hand.
 abbrev pub allowed_by : Limits → ℤ → ℕ → ℤ → Bool

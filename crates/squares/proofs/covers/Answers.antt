@@ -1,45 +1,17 @@
--- `squares::covers` meets its contract, by what each pair of answers comes to.
+-- `squares::covers` meets its contract: what is read is near enough to be exact, and the check does the rest.
 -- Assumes nothing.
-use mathlib.Core.Path.{refl, sym, ◌∙◌}
-use Rattle.reader.specs.Read.{read_of}
-use Rattle.reader.proofs.Sizes.{square_near}
+use mathlib.Core.Path.{sym, ap, ◌∙◌}
+use Rattle.std.specs.Prelude.{Ok}
 use Rattle.position.proofs.Exact.{small_exact}
-use Rattle.squares.proofs.Answers.{covers_by}
+use Rattle.reader.proofs.Sizes.{square_near}
 use Rattle.squares.proofs.covers.Goals as goal
 
-pub is_covering-requires : goal.is_covering-requires
-is_covering-requires c =
-    let a = square_near c.args.a.now _ (sym c.read.ensures ∙ c.in-Square.is) in
-    let b = square_near c.args.b.now _ (sym c.read-in-Square.ensures ∙ c.in-Square-read-2.is) in
-    (small_exact _ a.east, small_exact _ a.north, small_exact _ b.east, small_exact _ b.north)
+pub invariant_of-is_covering : goal.invariant_of-is_covering
+invariant_of-is_covering c =
+    let near = square_near c.args.a.now c.in-Square-Square.x (sym c.read.ensures ∙ c.in_ok-outer.was ∙ ap Ok c.in-Square-Square.is-0) in
+    record { east_exact = small_exact _ near.east; north_exact = small_exact _ near.north }
 
-pub returns-in-Refused : goal.returns-in-Refused
-returns-in-Refused c =
-    covers_by c.args.a.now c.args.b.now _ (read_of c.args.b.now) (sym c.read.ensures ∙ c.in-Refused.is) refl
-
-pub returns-in-Refused-read : goal.returns-in-Refused-read
-returns-in-Refused-read c =
-    covers_by c.args.a.now c.args.b.now _ _ (sym c.read.ensures ∙ c.in-Bare.is) (sym c.read-in-Bare.ensures ∙ c.in-Refused-read.is)
-
-pub returns-in-Bare-read : goal.returns-in-Bare-read
-returns-in-Bare-read c =
-    let e = covers_by c.args.a.now c.args.b.now _ _ (sym c.read.ensures ∙ c.in-Bare.is) (sym c.read-in-Bare.ensures ∙ c.in-Bare-read.is) in
-    rw c.is_same_area.ensures at c.verdict_of.ensures ∙ e
-
-pub returns-in-Square-read : goal.returns-in-Square-read
-returns-in-Square-read c =
-    let e = covers_by c.args.a.now c.args.b.now _ _ (sym c.read.ensures ∙ c.in-Bare.is) (sym c.read-in-Bare.ensures ∙ c.in-Square-read.is) in
-    rw c.is_same_area-in-Square-read.ensures at c.verdict_of-in-Square-read.ensures ∙ e
-
-pub returns-in-Refused-read-2 : goal.returns-in-Refused-read-2
-returns-in-Refused-read-2 c =
-    covers_by c.args.a.now c.args.b.now _ _ (sym c.read.ensures ∙ c.in-Square.is) (sym c.read-in-Square.ensures ∙ c.in-Refused-read-2.is)
-
-pub returns-in-Bare-read-2 : goal.returns-in-Bare-read-2
-returns-in-Bare-read-2 c =
-    covers_by c.args.a.now c.args.b.now _ _ (sym c.read.ensures ∙ c.in-Square.is) (sym c.read-in-Square.ensures ∙ c.in-Bare-read-2.is)
-
-pub returns-in-Square-read-2 : goal.returns-in-Square-read-2
-returns-in-Square-read-2 c =
-    let e = covers_by c.args.a.now c.args.b.now _ _ (sym c.read.ensures ∙ c.in-Square.is) (sym c.read-in-Square.ensures ∙ c.in-Square-read-2.is) in
-    rw c.is_covering.ensures at c.verdict_of-in-Square-read-2.ensures ∙ e
+pub invariant_of-is_covering-in-Square-Square : goal.invariant_of-is_covering-in-Square-Square
+invariant_of-is_covering-in-Square-Square c =
+    let near = square_near c.args.b.now c.in-Square-Square.y (sym c.read-2.ensures ∙ c.in_ok-inner.was ∙ ap Ok c.in-Square-Square.is-1) in
+    record { east_exact = small_exact _ near.east; north_exact = small_exact _ near.north }

@@ -41,14 +41,8 @@ outer_edge c =
     let h = side_le c.args.p in
     rw (outer (goal.at.After-side_length-then-outer-inner c).After-corner_of-outer, outer_side c, to_z_pos w64 {n = side_length c.args.p} (omega arith))
 
-pub overflow_cast-result : goal.overflow_cast-result
-overflow_cast-result c = let h = side_le c.args.r in record { sfits = rw (inner_side c) (omega arith) }
-
 pub overflow_add-result : goal.overflow_add-result
 overflow_add-result c = rw (inner_edge c) (edge_fits _ _ c.requires.1)
-
-pub overflow_cast-result-then-outer-inner : goal.overflow_cast-result-then-outer-inner
-overflow_cast-result-then-outer-inner c = let h = side_le c.args.p in record { sfits = rw (outer_side c) (omega arith) }
 
 pub overflow_add-result-then-outer-inner : goal.overflow_add-result-then-outer-inner
 overflow_add-result-then-outer-inner c = rw (outer_edge c) (edge_fits _ _ c.requires.0)
@@ -58,7 +52,3 @@ unfolding axis_within
 returns-then-outer-inner c =
     let k : le_z (corner_of c.args.p c.args.c) (corner_of c.args.r c.args.d) ≡ true = rw (outer (goal.at.returns-then-outer-inner c).After-corner_of-outer, inner (goal.at.returns-then-outer-inner c).After-corner_of-inner) at c.if-outer-inner.true in
     rw (inner_edge (goal.at.returns-then-outer-inner c).After-side_length, outer_edge c, to_z-of_z (edge_fits c.args.r c.args.d c.requires.1), to_z-of_z (edge_fits c.args.p c.args.c c.requires.0), k)
-
-pub returns : goal.returns
-unfolding axis_within
-returns c = let k = rw (outer (goal.at.returns c).After-corner_of-outer, inner (goal.at.returns c).After-corner_of-inner) at c.if-outer-inner.false in rw k

@@ -58,7 +58,7 @@ returns-then-x-lt0 c =
     (to_z-of_z (below_fits s.args.x s.args.d s.ranges.x)
     ∙ sym (below s.args.x (search rules) (rw (to_z-of_z s.ranges.x) at c.if-x-lt0.true)).0)
 
-pub returns : goal.returns
-returns c =
+pub returns-else-x-lt0 : goal.returns-else-x-lt0
+returns-else-x-lt0 c =
     let s = c.before.before.before in
     quotient c.before ∙ sym (above s.args.x (search rules) (rw (to_z-of_z s.ranges.x) at c.if-x-lt0.false)).0

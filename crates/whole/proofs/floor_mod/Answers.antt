@@ -28,7 +28,7 @@ returns-then-x-lt0 c =
     let s = c.before.before.before in
     rw (folded c.before) (sym (below s.args.x (search rules) (rw (to_z-of_z s.ranges.x) at c.if-x-lt0.true)).1)
 
-pub returns : goal.returns
-returns c =
+pub returns-else-x-lt0 : goal.returns-else-x-lt0
+returns-else-x-lt0 c =
     let s = c.before.before.before in
     rw (folded c.before) (sym (above s.args.x (search rules) (rw (to_z-of_z s.ranges.x) at c.if-x-lt0.false)).1)

@@ -1,12 +1,14 @@
 -- `writer::put_head` meets its contract, by the two kinds of head.
 -- Assumes nothing.
-use mathlib.Core.Path.{◌≡◌}
+use mathlib.Core.Path.{◌≡◌, ◌∙◌}
 use mathlib.Core.Bool.{true, false}
 use native.Mathlib.Omega.{arith}
 use lib.IntN.{pos}
+use lib.ListN.{length, take}
 use lib.Signed.{lt_z}
+use Rattle.std.proofs.lemmas.List.{length-take}
 use mir.Facts.{to_z-of_z}
-use Rattle.writer.proofs.Stores.{ups_length, utm_length, ups_stored, utm_stored}
+use Rattle.writer.proofs.Stores.{utm_length, ups_stored, utm_stored}
 use Rattle.writer.proofs.put_head.Goals as goal
 use Rattle.writer.proofs.put_head.Goals.{Else-zone-lt1, Then-zone-lt1}
 
@@ -16,28 +18,18 @@ ups c = rw (to_z-of_z c.ranges.zone) at c.if-zone-lt1.true
 utm : (c : Else-zone-lt1) → lt_z c.args.zone (pos 1) ≡ false
 utm c = rw (to_z-of_z c.ranges.zone) at c.if-zone-lt1.false
 
-pub bounds-out-0 : goal.bounds-out-0
-bounds-out-0 c =
-    let h = ups_length c.args.zone (ups c) in
-    let k = c.requires in
-    omega arith
+-- a UTM head is three bytes, and its digits are the first two
+three : (c : Else-zone-lt1) → length c.args.out.now ≡ 3
+three c = c.requires ∙ utm_length c.args.zone (utm c)
 
-pub put_digits-requires : goal.put_digits-requires
-put_digits-requires c =
-    let h = utm_length c.args.zone (utm (goal.at.put_digits-requires c).Else-zone-lt1) in
-    let k = c.requires in
-    omega arith
-
-pub bounds-out-2 : goal.bounds-out-2
-bounds-out-2 c =
-    let h = utm_length c.args.zone (utm (goal.at.bounds-out-2 c).Else-zone-lt1) in
-    let k = c.requires in
-    let l = c.put_digits.auto.out in
-    omega arith
+two : (c : Else-zone-lt1) → length (take 2 c.args.out.now) ≡ 2
+two c = let h = three c in simp length-take (omega arith)
 
 pub returns-then-zone-lt1 : goal.returns-then-zone-lt1
-returns-then-zone-lt1 c = ups_stored c.args.zone c.args.band c.args.out.now (ups c)
+returns-then-zone-lt1 c = ups_stored c.args.zone c.args.band c.args.out.now (ups c) c.requires
 
 pub returns-else-zone-lt1 : goal.returns-else-zone-lt1
 returns-else-zone-lt1 c =
-    utm_stored c.args.zone c.args.band _ c.args.out.now _ (utm (goal.at.returns-else-zone-lt1 c).Else-zone-lt1) (rw (to_z-of_z c.ranges.zone) at c.fold_of.ensures) c.put_digits.ensures
+    let at = (goal.at.returns-else-zone-lt1 c).Else-zone-lt1 in
+    let z = rw (to_z-of_z c.ranges.zone) at c.fold_of.ensures in
+    utm_stored c.args.zone c.args.band c.args.out.now _ (utm at) c.requires (rw (two at, z) at c.put_digits.ensures)
