@@ -1,9 +1,9 @@
 -- What the grid of a zone says of its number. Assumes nothing.
-use mathlib.Core.Path.{◌≡◌, refl, ap}
+use mathlib.Core.Path.{◌≡◌, refl}
 use mathlib.Core.Bool.{Bool, true, false, cond}
 use Prim.Native.Nat.{ℕ, ◌≤◌}
 use native.Mathlib.Omega.{arith}
-use borrow.Author.Tests.{ltb-true, ltb-false}
+use borrow.Author.Tests.{ltb-false}
 use lib.Dec.{ltb, lit≤}
 use lib.IntN.{ℤ, pos, negsuc, ◌-ℤ◌}
 use mir.Syntax.{w64}
@@ -30,17 +30,6 @@ pub utm_zone : (zone : ℤ) → grid_of zone ≡ Utm → Between 1 60 zone
 unfolding grid_of
 utm_zone (pos n) e = utm_by n (ltb n 0) (ltb 60 n) (ltb n 1) refl refl e
 utm_zone (negsuc n) e = let f : NoZone ≡ Utm = e in clash (cc)
-
-ups_by : (n : ℕ) (below above zero : Bool) → ltb n 1 ≡ zero → cond below NoZone (cond above NoZone (cond zero Ups Utm)) ≡ Ups → n ≡ 0
-ups_by n true above zero q e = clash (cc)
-ups_by n false true zero q e = clash (cc)
-ups_by n false false true q e = let h = ltb-true n 1 q in omega arith
-ups_by n false false false q e = clash (cc)
-
-pub ups_zone : (zone : ℤ) → grid_of zone ≡ Ups → zone ≡ pos 0
-unfolding grid_of
-ups_zone (pos n) e = ap pos (ups_by n (ltb n 0) (ltb 60 n) (ltb n 1) refl e)
-ups_zone (negsuc n) e = let f : NoZone ≡ Ups = e in clash (cc)
 
 -- a UTM zone less one
 pub zone_less_fits : (zone : ℤ) → SFits w64 zone → grid_of zone ≡ Utm → SFits w64 (zone -ℤ pos 1)

@@ -43,6 +43,7 @@ pub fn utm_place(letter: u8) -> Option<usize>
 }
 
 // Among those of UPS.
+#[tactic(auto, using(crate::proofs::Guesses::ups_bands))]
 pub fn ups_place(letter: u8) -> Option<usize>
     ensures { result ≡ place_of UpsBands letter }
 {
@@ -81,6 +82,7 @@ fn is_ups_band(letter: u8) -> bool
 }
 
 // Whether a zone has a band. Reading asks no more than this, and an answer of one bit costs it less than a place.
+#[tactic(auto, unfolding(letters::specs::Letters::place_of, letters::specs::Letters::place_from, letters::specs::Letters::is_in, crate::specs::Bands::grid_of, crate::specs::Bands::bands_of), using(crate::proofs::Index::index_in))]
 pub fn is_band(zone: i64, letter: u8) -> bool
     ensures { result ≡ is_in (bands_of zone) letter }
 {

@@ -20,6 +20,7 @@ const METRE: i64 = 2_000_000;
 const TILE: i64 = 200_000_000_000;
 
 // The tile of the k-th band's middle row, floor((160k - 1511)/18): 85 tiles more are divided, so that no number is negative.
+#[tactic(auto, using(crate::proofs::Bounds::tile_divided))]
 fn bare_tile(k: usize) -> i64
     requires { k < 24 }
     ensures { result ≡ bare_tile k }
@@ -59,6 +60,7 @@ fn bare_northing(zone: i64, band: u8) -> i64
 }
 
 // The point of a bare zone: supplied, not recorded, and so of p -1.
+#[tactic(auto, unfolding(crate::specs::Bare::bare_of))]
 pub fn bare_of(zone: i64, band: u8) -> Position
     ensures { result ≡ bare_of zone band }
 {
@@ -106,6 +108,7 @@ fn tile_of(row: i64) -> u8
 
 // The block of a UTM zone, with the row that the letter means. A letter that is no band allows no row; told at once, the row does not
 // wait for the table to confirm the band.
+#[tactic(auto, using(bands::proofs::Index::index_is, bands::proofs::Index::index_le))]
 fn utm_block(
     zone: i64,
     band: u8,
@@ -128,6 +131,7 @@ fn utm_block(
 
 // Of capitals in a UTM zone: the column and the row of a band. Kept: zone, band and letters one by one, here and below, as the public
 // `block_of` takes them.
+#[tactic(auto, using(letters::proofs::Places::place_lt, crate::proofs::Grids::in_utm))]
 fn block_in_utm(zone: i64, band: u8, column: u8, row: u8) -> Result<Tiles, Refusal>
     requires { grid_of zone ≡ Utm }
     ensures { result ≡ block_of zone band column row }
@@ -142,6 +146,7 @@ fn block_in_utm(zone: i64, band: u8, column: u8, row: u8) -> Result<Tiles, Refus
 }
 
 // The same in UPS, where the letters are tiles.
+#[tactic(auto, using(letters::proofs::Places::tile_lt, crate::proofs::Grids::in_ups))]
 fn block_in_ups(band: u8, column: u8, row: u8) -> Result<Tiles, Refusal>
     ensures { result ≡ block_of (pos 0) band column row }
 {
@@ -157,6 +162,7 @@ fn block_in_ups(band: u8, column: u8, row: u8) -> Result<Tiles, Refusal>
 }
 
 // The same in any zone.
+#[tactic(auto, unfolding(bands::specs::Bands::grid_of), using(crate::proofs::Grids::in_none))]
 pub fn block_of(zone: i64, band: u8, column: u8, row: u8) -> Result<Tiles, Refusal>
     ensures { result ≡ block_of zone band column row }
 {

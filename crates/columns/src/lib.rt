@@ -67,6 +67,7 @@ fn ups_columns(band: u8) -> Stretch
 }
 
 // Which of the three sets a UTM zone uses.
+#[tactic(auto, using(bands::proofs::ZoneNumber::zone_less_fits))]
 fn third_of(zone: i64) -> usize
     requires { grid_of zone ≡ Utm }
     ensures { (result ≡ floor_mod (zone -ℤ pos 1) 3) × (result < 3) }
@@ -75,6 +76,7 @@ fn third_of(zone: i64) -> usize
 }
 
 // The place of a column's letter in a UTM zone.
+#[tactic(auto, unfolding(letters::specs::Letters::place_of, letters::specs::Letters::place_from, bands::specs::Bands::grid_of, crate::specs::Columns::utm_columns_of), using(crate::proofs::Guesses::utm_columns_lem, crate::proofs::Guesses::utm_letters))]
 pub fn utm_place(zone: i64, letter: u8) -> Option<usize>
     ensures { result ≡ place_of (utm_columns_of zone) letter }
 {
@@ -94,6 +96,7 @@ pub fn utm_place(zone: i64, letter: u8) -> Option<usize>
 }
 
 // The tile of a column's letter in a UPS band.
+#[tactic(auto, using(crate::proofs::Guesses::in_table))]
 pub fn ups_tile(band: u8, letter: u8) -> Option<usize>
     ensures { result ≡ tile_in (ups_columns band) letter }
 {

@@ -136,6 +136,7 @@ fn is_fitting(q: Landed, k: usize) -> bool
 
 // The digits of one axis, cut: what is left of a tile, by the side of a square. Both are made greater by the power of ten that
 // makes the side a constant: a division by a number that is not known beforehand is no multiplication.
+#[tactic(auto, using(crate::proofs::Sides::sided, crate::proofs::Sides::fits))]
 fn cut_of(p: i64, x: u64) -> u64
     requires { 0 < side_length p }
     ensures { result ≡ cut_of p x }

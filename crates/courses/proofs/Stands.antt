@@ -103,10 +103,6 @@ module _ (out : List ℕ) (run : Run) (n : ℕ) where
   pub sent_bound : run.used ≤ length out → ((written_run run n).sent ≤ (written_run run n).used) × ((written_run run n).used ≤ length out)
   sent_bound h = bound_by (ltb n (run.used - run.sent)) refl h
 
-  pub sent_pends : (buf : List ℕ) → pending_of buf (written_run run n) ≡ pending_of buf run
-  unfolding pending_of written_run
-  sent_pends buf = refl
-
 -- ---- a step
 
 module _ (buf out : List ℕ) (run : Run) where

@@ -37,6 +37,7 @@ fn is_zone_wrong(lead: Lead) -> bool
     lead.value == 0 && lead.count != 0
 }
 
+#[tactic(auto, unfolding(letters::specs::Letters::is_in, runs::specs::Runs::value_from, runs::specs::Runs::lead_of, runs::specs::Runs::zone_lead, crate::specs::Head::zone_wrong, crate::specs::Head::head_of))]
 pub fn head_of(s: &[u8]) -> Result<Head, Refusal>
     ensures { result ≡ head_of s.now }
 {

@@ -2,16 +2,15 @@
 -- Assumes nothing.
 use mathlib.Core.Path.{◌≡◌, refl, ap, sym, ◌∙◌}
 use mathlib.Core.Bool.{Bool, true, false, cond}
-use Prim.Native.Nat.{ℕ, ◌≤◌, ◌<◌}
+use Prim.Native.Nat.{ℕ, ◌<◌}
 use mathlib.Core.List.{List}
 use lib.ListN.{length, get_or}
-use native.Mathlib.Omega.{arith}
 use borrow.Author.Tests.{eq-eqb, eqb-true, lt-leb, leb-false}
-use lib.Dec.{T, eqb, leb, ltb, eqb→eq, lit≤}
+use lib.Dec.{T, eqb, leb, eqb→eq}
 use Rattle.whole.proofs.Parts.{clash}
 use Rattle.whole.proofs.Table.{all, each}
 use Rattle.letters.specs.Letters.{LetterSet, letters_of, place_of, letter_at}
-use Rattle.letters.specs.Search.{confirm, skipped_of, skipped_low, skipped_high, skipped_in_columns, skipped_in_bands}
+use Rattle.letters.specs.Search.{confirm}
 use Rattle.letters.proofs.Laws.{size_of, place_below, place_holds, letter_found}
 use Rattle.std.specs.Prelude.{Option, Some, None}
 
@@ -46,46 +45,6 @@ module _ (set : LetterSet) (g : ℕ → ℕ) (r : T (right set g)) (b : ℕ) whe
 
   pub confirmed_is : confirm (letters_of set) (g b) b ≡ place_of set b
   confirmed_is = by_place_lem (place_of set b) refl
-
--- how many letters are left out at most
-skipped_by : (t u : Bool) → cond t 0 (cond u 1 2) ≤ 22
-skipped_by true u = lit≤ tt
-skipped_by false true = lit≤ tt
-skipped_by false false = lit≤ tt
-
-pub skipped_le : (b : ℕ) → skipped_of b ≤ 22
-unfolding skipped_of
-skipped_le b = skipped_by (ltb b 73) (ltb b 79)
-
-low_by : (t u : Bool) → cond t 0 (cond u 2 3) ≤ 3
-low_by true u = lit≤ tt
-low_by false true = lit≤ tt
-low_by false false = lit≤ tt
-
-pub low_le : (b : ℕ) → skipped_low b ≤ 3
-unfolding skipped_low
-low_le b = low_by (ltb b 68) (ltb b 73)
-
-high_by : (t u : Bool) → cond t 0 (cond u 3 5) ≤ 5
-high_by true u = lit≤ tt
-high_by false true = lit≤ tt
-high_by false false = lit≤ tt
-
-pub high_le : (b : ℕ) → skipped_high b ≤ 5
-unfolding skipped_high
-high_le b = high_by (ltb b 77) (ltb b 86)
-
-pub columns_le : (b : ℕ) → skipped_in_columns b ≤ 22
-unfolding skipped_in_columns
-columns_le b = omega (arith, low_le b, high_le b)
-
-bands_by : (t : Bool) → cond t 0 22 ≤ 22
-bands_by true = lit≤ tt
-bands_by false = lit≤ tt
-
-pub bands_le : (b : ℕ) → skipped_in_bands b ≤ 22
-unfolding skipped_in_bands
-bands_le b = bands_by (ltb b 78)
 
 -- a confirmed place is one of the set's
 small_by : (n k j : ℕ) (past same : Bool) → leb n k ≡ past → cond past None (cond same (Some k) None) ≡ Some j → j < n

@@ -6,11 +6,10 @@ use mathlib.Core.Logic.{◌↔◌}
 use mathlib.Core.List.{List, [], ◌∷◌}
 use Prim.Native.Nat.{ℕ, suc, ◌+◌, ◌<◌, ◌≤◌}
 use native.Mathlib.Omega.{arith}
-use native.Mathlib.Nat.{le_trans}
 use mir.Facts.{and_yes}
 use borrow.Author.Tests.{eqb-true, ne_eqb}
 use lib.Dec.{T, eqb, leb, leb→le, eqb→eq}
-use lib.ListN.{length, get_or, get_or-eq_default}
+use lib.ListN.{length, get_or}
 use Rattle.whole.proofs.Parts.{clash}
 use Rattle.whole.proofs.Table.{all, each, every, every_head, every_tail}
 use Rattle.letters.specs.Letters.{LetterSet, letters_of, place_from, place_of, letter_at, first_tile}
@@ -84,10 +83,6 @@ size_le set = leb→le (size_of set) 24 (for_all (λ set. leb (size_of set) 24) 
 pub first_le : (set : LetterSet) → first_tile set ≤ 20
 unfolding first_tile
 first_le set = leb→le (first_tile set) 20 (for_all (λ set. leb (first_tile set) 20) tt set)
-
-pub past_end : (set : LetterSet) (k : ℕ) → 24 ≤ k → letter_at set k ≡ 0
-unfolding letter_at
-past_end set k h = get_or-eq_default (letters_of set) 0 (le_trans (size_le set) h)
 
 -- all letters are capitals: a byte outside A to Z, 65 to 90, is in no set
 abbrev pub is_capital : ℕ → Bool

@@ -61,6 +61,7 @@ pub fn confirmed(set: &[u8], place: usize, letter: u8) -> Option<usize>
 }
 
 // The same as a tile, by that of the set's first letter.
+#[tactic(auto, using(crate::proofs::Confirm::confirm_small))]
 pub fn tile_of(set: &[u8], place: usize, letter: u8, first: u8) -> Option<usize>
     ensures { result ≡ option_map (λ k. first + k) (confirm set.now place letter) }
 {

@@ -39,6 +39,7 @@ impl Run {
     }
 
     // Puts the next line's answer behind those that wait, where it has room: where the output then ends.
+    #[tactic(auto, using(crate::proofs::Steps::put_fits, crate::proofs::Steps::put_full))]
     fn put_line(self, line: &[u8], out: &mut [u8]) -> Option<usize>
         requires { self.used ≤ length out.old }
         ensures { PutAt (line_of (reader_of self) self.number line.now) out.old self.used result out.new }

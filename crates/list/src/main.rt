@@ -71,6 +71,7 @@ fn after_write(rt: &impl Eprint, got: &io::Result<usize>) -> Result<(), Failure>
 }
 
 // One write, of the bytes that wait.
+#[tactic(auto, using(courses::proofs::Programs::written_sent))]
 fn send<W: Write>(
     rt: &impl Eprint,
     output: &mut W,
@@ -116,6 +117,7 @@ fn send_all<W: Write>(
 }
 
 // Lists what waits. Where the output is full, it is written.
+#[tactic(auto, using(courses::proofs::Programs::stepped_reached))]
 fn list<W: Write>(
     rt: &impl Eprint,
     output: &mut W,
@@ -197,7 +199,7 @@ fn close<W: Write>(
 }
 
 // The whole run. Where a read failed, what is answered is written all the same; where a write failed, nothing more is.
-#[tactic(auto, using(courses::proofs::Programs::stops_unwritten))]
+#[tactic(auto, using(courses::proofs::Programs::stops_unwritten, courses::proofs::Programs::waits))]
 fn list_all<R: Read, W: Write>(
     rt: &impl Eprint,
     input: &mut R,

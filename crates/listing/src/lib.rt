@@ -68,6 +68,7 @@ impl Line {
     }
 
     // The last eight digits of a number in front, in one step.
+    #[tactic(auto, using(crate::proofs::Bytes::eight_bytes, crate::proofs::Bytes::eight_before))]
     fn put_eight(&mut self, n: u64)
         requires { length self.old ≤ 120 }
         ensures { self.new ≡ last_digits 8 n ++ self.old }
@@ -79,6 +80,7 @@ impl Line {
 
     // A number of at most eight digits in front: all eight, and then the zeros before it are let go. One or two, as a zone has,
     // take less by themselves.
+    #[tactic(auto, using(crate::proofs::Numerals::one_is, crate::proofs::Numerals::two_is))]
     fn put_short(&mut self, n: u64)
         requires { (n < 100000000) × (length self.old ≤ 120) }
         ensures { self.new ≡ decimal n ++ self.old }
@@ -95,6 +97,7 @@ impl Line {
     }
 
     // A number in front, eight digits at a time.
+    #[tactic(auto, using(crate::proofs::Numerals::eight_more))]
     fn put_number(&mut self, n: u64)
         requires { length self.old ≤ 100 }
         ensures { self.new ≡ decimal n ++ self.old }

@@ -66,6 +66,7 @@ pub fn write(
 }
 
 // Writes a reference at q digits: its length.
+#[tactic(auto, using(refusals::proofs::Room::short_room))]
 pub fn shorten(text: &[u8], q: i64, out: &mut [u8]) -> i64
     ensures { (result ≡ length_number (short_of text.now q (length out.old))) × (out.new ≡ short_leaves text.now q out.old) }
 {

@@ -76,9 +76,8 @@ module _ (p t d : ℕ) (h : p ≤ 11) where
       let m = mul-lt-mul_of_pos_right k (ten_pos (11 - p)) in
       omega arith
 
--- a tile's units and less than those of one more never wrap
-pub sum_lt : (t x : ℕ) → t < 256 → x < 200000000000 → t * 200000000000 + x < 2 ^ 63
-sum_lt t x h g = omega arith
+-- what puts the centre that digits name into its tile
+pub ruleset centred = (half_is, counted, centre_at, centre_split, in_tile)
 
 -- of the n-th square of p digits along an axis, counted from 0
 module _ (p n : ℕ) (h : p ≤ 11) where

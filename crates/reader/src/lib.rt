@@ -27,6 +27,7 @@ fn centre_at(half: u64, tile: u8, digits: u64) -> i64
 
 // The centre of the square that the parts name in their tiles. Half its side is handed over, for both axes, and the digits are p:
 // neither is looked at again.
+#[tactic(auto, unfolding(crate::specs::Read::square_of), using(whole::proofs::Signed::back, whole::proofs::Powers::ten_le, position::proofs::Squares::centred))]
 fn square_of(half: u64, parts: Parts, tiles: Tiles) -> Position
     requires { (half ≡ half_of parts.p) × (count_of parts.p ≤ 11) × (parts.easting < 10 ^ count_of parts.p) × (parts.northing < 10 ^ count_of parts.p) }
     ensures { result ≡ square_of parts tiles }

@@ -48,6 +48,7 @@ pub fn utm_place(letter: u8) -> Option<usize>
 }
 
 // The tile of a row's letter in a UPS hemisphere.
+#[tactic(auto, using(crate::proofs::Guesses::in_table))]
 pub fn ups_tile(north: bool, letter: u8) -> Option<usize>
     ensures { result ≡ tile_in (ups_rows north) letter }
 {

@@ -154,6 +154,7 @@ fn candidate_of(lowest: i64, place: usize) -> i64
 }
 
 // The row of a letter in an odd zone, its place at most one round too far on. The limits are looked up once.
+#[tactic(auto, unfolding(crate::specs::Limits::limits_of))]
 fn row_from(band: i64, column: usize, place: usize) -> Option<i64>
     requires { place < 40 }
     ensures { result ≡ resolve 0 band column (place % 20) }
@@ -171,6 +172,7 @@ pub fn utm_row(band: i64, column: usize, letter: usize) -> Option<i64>
 }
 
 // The row of a letter at any shift: 0 in odd zones, 5 in even ones.
+#[tactic(auto, using(crate::proofs::Theorems::no_letter))]
 pub fn utm_row_at(shift: u64, band: i64, column: usize, letter: usize) -> Option<i64>
     ensures { result ≡ resolve shift band column letter }
 {

@@ -26,6 +26,7 @@ pub fn put(out: &mut [u8], at: usize, text: &[u8]) -> usize
 }
 
 // A space and a number.
+#[tactic(auto, using(crate::proofs::Counts::text_is))]
 pub fn put_count(out: &mut [u8], at: usize, n: u64) -> usize
     ensures { (result ≡ put_end at (count_text n) out.old) × (out.new ≡ put_leaves at (count_text n) out.old) }
 {

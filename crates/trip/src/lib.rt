@@ -10,6 +10,7 @@ use rules::Refusal;
 
 // Writes a point's reference and reads it again: its square or its bare zone, or the rule that forbids writing. 27 bytes
 // hold every reference.
+#[tactic(auto, using(laws::proofs::Length::length_rule))]
 pub fn read_back(q: Position) -> Result<Reading<Position>, Refusal>
     ensures { result ≡ back_of q.zone q.north q.band q.p q.easting q.northing }
 {

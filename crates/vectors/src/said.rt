@@ -49,18 +49,19 @@ impl Said {
         self.text(if north { b" N" } else { b" S" })
     }
 
-    // The seven digits behind the point, the last zeros left out.
+    // A point and the seven digits behind it, the last zeros left out.
     fn fraction(self, fraction: u64) -> Said {
-        let mut said = self.text(b".");
+        let mut word = [0u8; 8];
+        let mut used = put(&mut word, 0, b".");
         let mut rest = fraction % 10_000_000;
         for _ in 0..7 {
             if rest == 0 {
                 break;
             }
-            said = said.text(&[b'0' + (rest / 1_000_000 % 10) as u8]);
+            used = put(&mut word, used, &[b'0' + (rest / 1_000_000 % 10) as u8]);
             rest = rest % 1_000_000 * 10;
         }
-        said
+        self.text(front(&word, used))
     }
 
     // Units as metres, exactly: a unit is 5 of the seventh place.

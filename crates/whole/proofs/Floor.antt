@@ -7,8 +7,6 @@ use native.Mathlib.Omega.{arith}
 use borrow.Author.Tests.{eq-eqb, ne_eqb}
 use lib.IntN.{ℤ, pos, negsuc, ◌+ℤ◌, ◌*ℤ◌}
 use lib.Signed.{lt_z}
-use mir.Syntax.{Width}
-use mir.Val.{SFits}
 use Rattle.whole.specs.Floor.{fold, floor_div, floor_mod}
 use Rattle.whole.proofs.Parts.{up, dn, eq_by, add_parts, up_mul, dn_mul, lt_yes, lt_no}
 
@@ -89,7 +87,3 @@ pub above : (z : ℤ) {d : ℕ} → 0 < d → lt_z z (pos 0) ≡ false → (floo
 unfolding up dn
 above (negsuc n) h t = absurd (omega (arith, lt_no (negsuc n) (pos 0) t))
 above (pos n) h t = (div_pos n h, mod_pos n h)
-
-pub fold_lt : (w : Width) (z : ℤ) → SFits w z → SFits w (pos (fold z))
-fold_lt w (pos n) f = f
-fold_lt w (negsuc n) f = record { sfits = f.sfits }

@@ -11,8 +11,7 @@ use lib.IntN.{ℤ, pos, negsuc, suc_ℤ, neg_ℤ, nat_abs, ◌+ℤ◌, ◌-ℤ�
 use lib.Signed.{◌≤ℤ◌, lt_z, le_z}
 use borrow.Author.Tests.{ltb-true, ltb-false, leb-true, leb-false}
 use mir.Syntax.{Width}
-use mir.Val.{SFits, hbits, to_z, of_z}
-use mir.Facts.{to_z-of_z}
+use mir.Val.{SFits, hbits}
 
 unfoldable pub up : ℤ → ℕ
 up (pos n) = n
@@ -146,7 +145,3 @@ module _ (a b : ℤ) where
 
   pub ≤ℤ-parts : a ≤ℤ b → up a + dn b ≤ up b + dn a
   ≤ℤ-parts h = le_of h.le
-
--- two numbers with the same bits, as `==` compares them
-pub bits_eq : (w : Width) (a b : ℤ) → SFits w a → SFits w b → of_z w a ≡ of_z w b → a ≡ b
-bits_eq w a b f g e = sym (to_z-of_z f) ∙ ap (to_z w) e ∙ to_z-of_z g

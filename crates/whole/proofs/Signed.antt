@@ -2,13 +2,13 @@
 use mathlib.Core.Path.{◌≡◌, refl, sym, ap, subst, ◌∙◌}
 use Prim.Native.Nat.{ℕ, ◌^◌, ◌≤◌, ◌<◌}
 use native.Mathlib.Omega.{arith}
-use borrow.Author.Tests.{eq-eqb, ne_eqb, eqb-true}
+use borrow.Author.Tests.{eq-eqb, eqb-true}
 use lib.Dec.{T}
 use mathlib.Core.Bool.{Bool, true, false}
-use lib.IntN.{ℤ, pos, negsuc, nat_abs, ◌-ℤ◌}
-use lib.Signed.{mag, non_neg}
+use lib.IntN.{ℤ, pos, negsuc, ◌-ℤ◌}
+use lib.Signed.{mag}
 use mir.Syntax.{w64}
-use mir.Val.{SFits, Fits, to_z, of_z}
+use mir.Val.{SFits, to_z, of_z}
 use mir.Facts.{to_z-of_z}
 use Rattle.whole.specs.Compare.{is_number, same}
 use Rattle.whole.proofs.Parts.{up, dn, sub_parts, sfits_by, sfits_up}
@@ -21,10 +21,6 @@ back z v ok e = to_z-of_z {w = w64} (record { sfits = ok }) ∙ e
 pub is : (z : ℤ) (n : ℕ) → SFits w64 z → n < 2 ^ 63 → of_z w64 z ≡ n → is_number z n ≡ true
 is (pos a) n f h e = eq-eqb a n e
 is (negsuc a) n f h e = absurd (omega (arith, f.sfits))
-
-pub is_not : (z : ℤ) (n : ℕ) → (of_z w64 z ≡ n → ⊥) → is_number z n ≡ false
-is_not (pos a) n h = ne_eqb a n h
-is_not (negsuc a) n h = refl
 
 pub same→eq : (a b : ℤ) → same a b ≡ true → a ≡ b
 same→eq (pos a) (pos b) e = ap pos (eqb-true a b e)
@@ -42,14 +38,6 @@ same_by a b false e h = refl
 
 pub same_no : (a b : ℤ) → (a ≡ b → ⊥) → same a b ≡ false
 same_no a b h = same_by a b (same a b) refl h
-
--- a signed number that is a count
-module _ (z : ℤ) (n : ℕ) (e : to_z w64 (of_z w64 z) ≡ pos n) (h : n < 2 ^ 63) where
-  pub cast_asks : T (non_neg (to_z w64 (of_z w64 z))) × Fits w64 (nat_abs (to_z w64 (of_z w64 z)))
-  cast_asks = rw e (tt, record { fits = omega arith })
-
-  pub cast_gives : nat_abs (to_z w64 (of_z w64 z)) ≡ n
-  cast_gives = rw e
 
 -- a number not below 0 is the count above 0
 pub is_count : (z : ℤ) → dn z ≤ up z → z ≡ pos (up z)

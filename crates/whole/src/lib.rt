@@ -24,6 +24,7 @@ pub fn fold_of(v: i64) -> u64
 
 // x divided by d, rounded down; 0 where d is 0. Kept: 0 and not None, here and below, as specs/Floor and specs/Powers have it;
 // and not `div_euclid`, whose divisor is signed.
+#[tactic(auto, using(crate::proofs::Floor::by_zero, crate::proofs::Floor::below, crate::proofs::Floor::above))]
 pub fn floor_div(x: i64, d: u64) -> i64
     ensures { result ≡ floor_div x d }
 {
@@ -35,6 +36,7 @@ pub fn floor_div(x: i64, d: u64) -> i64
 }
 
 // What floor_div leaves of x: 0 up to d-1; 0 where d is 0.
+#[tactic(auto, unfolding(crate::specs::Floor::floor_mod))]
 pub fn floor_mod(x: i64, d: u64) -> u64
     ensures { result ≡ floor_mod x d }
 {

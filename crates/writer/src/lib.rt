@@ -42,7 +42,7 @@ fn head_length(zone: i64) -> usize
 }
 
 // The zone and its band.
-#[tactic(auto, using(crate::proofs::Stores::ups_length, crate::proofs::Stores::utm_length))]
+#[tactic(auto, using(crate::proofs::Stores::ups_length, crate::proofs::Stores::utm_length, crate::proofs::Stores::ups_stored, crate::proofs::Stores::utm_stored))]
 fn put_head(out: &mut [u8], zone: i64, band: u8)
     requires { length out.old ≡ head_length zone }
     ensures { out.new ≡ head_text zone band }
@@ -56,6 +56,7 @@ fn put_head(out: &mut [u8], zone: i64, band: u8)
 }
 
 // Nothing is written where the buffer is too short.
+#[tactic(auto, unfolding(crate::specs::Write::leaves_of), using(crate::proofs::Stores::head_length_lem, crate::proofs::Stores::short, crate::proofs::Stores::long))]
 fn put_bare(bare: BareZone, out: &mut [u8]) -> Result<usize, Refusal>
     ensures { (result ≡ fit_of (head_text bare.zone bare.band) (length out.old)) × (out.new ≡ leaves_of (head_text bare.zone bare.band) out.old) }
 {
@@ -69,6 +70,7 @@ fn put_bare(bare: BareZone, out: &mut [u8]) -> Result<usize, Refusal>
 }
 
 // The letters and digits of a reference after its band.
+#[tactic(auto, using(crate::proofs::Stores::block_stored))]
 fn put_block(out: &mut [u8], parts: Parts)
     requires { length out.old ≡ 2 + fold parts.p + fold parts.p }
     ensures { out.new ≡ block_text parts }
@@ -98,7 +100,7 @@ fn put_full(parts: Parts, out: &mut [u8]) -> Result<usize, Refusal>
 }
 
 // Writes a point's reference at the buffer's front: its length, or the rule that forbids it, and then nothing is written.
-#[tactic(auto, unfolding(crate::specs::Write::write_of, crate::specs::Write::write_leaves))]
+#[tactic(auto, unfolding(crate::specs::Write::write_of, crate::specs::Write::write_leaves), using(composer::proofs::Stages::few))]
 pub fn write(q: Position, out: &mut [u8]) -> Result<usize, Refusal>
     ensures { (result ≡ write_of q.zone q.north q.band q.p q.easting q.northing (length out.old)) × (out.new ≡ write_leaves q.zone q.north q.band q.p q.easting q.northing out.old) }
 {

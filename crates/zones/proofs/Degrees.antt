@@ -1,16 +1,15 @@
 -- Degrees are small numbers, so that the sums fit. Assumes nothing.
-use Prim.Native.Nat.{ℕ, ◌≤◌}
 use native.Mathlib.Omega.{arith}
 use lib.Dec.{lit<, lit≤}
-use lib.IntN.{ℤ, pos, negsuc, ◌+ℤ◌, ◌-ℤ◌, ◌*ℤ◌}
+use lib.IntN.{ℤ, pos, negsuc, ◌+ℤ◌, ◌-ℤ◌}
 use lib.Signed.{◌≤ℤ◌}
 use mir.Syntax.{w64}
 use mir.Val.{SFits}
-use Rattle.whole.specs.Floor.{floor_div, floor_mod}
+use Rattle.whole.specs.Floor.{floor_mod}
 use Rattle.whole.proofs.Parts.{up, dn, sfits_up, sfits_dn, sub_parts}
 use Rattle.whole.proofs.Floor.{up_floor, dn_floor, floor_mod_lt}
-use Rattle.whole.proofs.Small.{Small, fits, computed, count, between, sum, product, quotient, at_least, at_most}
-use Rattle.zones.specs.Zones.{degrees, turned, svalbard}
+use Rattle.whole.proofs.Small.{Small, fits, computed, between, sum, at_least, at_most}
+use Rattle.zones.specs.Zones.{degrees, turned}
 
 -- degrees of a 64-bit count
 degrees_small : (x : ℤ) → SFits w64 x → Small 10000000000 (degrees x)
@@ -43,17 +42,3 @@ module _ (d : ℤ) (h : Turned d) where
 
   pub turned_fits : SFits w64 d
   turned_fits = fits small (lit≤ tt)
-
-  pub more_fits : (n : ℕ) → n ≤ 1000 → SFits w64 (d +ℤ pos n)
-  more_fits n k = fits (sum d (pos n) small (count 1000 n k)) (lit≤ tt)
-
-  -- Svalbard's zone, step by step
-  half : Small 1180 (floor_div (d +ℤ pos 183) 12)
-  half = quotient (d +ℤ pos 183) (lit< tt) (sum d (pos 183) small (computed 1000 (pos 183) tt))
-
-  pub double_fits : SFits w64 (floor_div (d +ℤ pos 183) 12 *ℤ pos 2)
-  double_fits = fits (product (floor_div (d +ℤ pos 183) 12) 2 half) (lit≤ tt)
-
-  pub svalbard_fits : SFits w64 (svalbard d)
-  unfolding svalbard
-  svalbard_fits = fits (sum (floor_div (d +ℤ pos 183) 12 *ℤ pos 2) (pos 1) (product (floor_div (d +ℤ pos 183) 12) 2 half) (computed 1 (pos 1) tt)) (lit≤ tt)

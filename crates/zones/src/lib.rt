@@ -54,7 +54,7 @@ fn plain_zone(m: Meridian) -> i64
 }
 
 // Twelve degrees a zone around Svalbard, odd zones only.
-#[tactic(auto, unfolding(crate::specs::Zones::svalbard))]
+#[tactic(auto, unfolding(crate::specs::Zones::svalbard, whole::specs::Floor::floor_div), using(whole::proofs::Signed::back))]
 fn svalbard_zone(m: Meridian) -> i64
     ensures { result ≡ svalbard m.degrees }
 {

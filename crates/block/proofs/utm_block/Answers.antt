@@ -42,12 +42,6 @@ band_fits : (b : ℕ) → SFits w64 (band_number b)
 unfolding up dn
 band_fits b = let h = index_le b in less_fits (pos (band_index b)) 10 (record { sfits = omega arith }) (omega arith) (lit≤ tt)
 
-pub overflow_cast-number : goal.overflow_cast-number
-overflow_cast-number c = let h = index_le c.args.band in rw (sym (index c)) (record { sfits = omega arith })
-
-pub overflow_sub-number : goal.overflow_sub-number
-overflow_sub-number c = rw (number c) (band_fits _)
-
 resolved : (c : After-utm_row_at)
     → c.utm_row_at.result ≡ resolve (shift_of c.args.zone) (band_number c.args.band) c.args.column c.args.letter
 resolved c =

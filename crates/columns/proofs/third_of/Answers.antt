@@ -14,8 +14,5 @@ third : (c : After-floor_mod) → c.floor_mod.result ≡ floor_mod (c.args.zone 
 third c =
     rw (to_z-of_z c.ranges.zone, to_z-of_z (zone_less_fits c.args.zone c.ranges.zone c.requires)) at c.floor_mod.ensures
 
-pub overflow_sub-zone : goal.overflow_sub-zone
-overflow_sub-zone c = rw (to_z-of_z c.ranges.zone) (zone_less_fits c.args.zone c.ranges.zone c.requires)
-
 pub returns : goal.returns
 returns c = (third c, rw (third c) (floor_mod_lt _ (lit< tt)))

@@ -1,20 +1,10 @@
 -- `columns::ups_tile` meets its contract: a guess that is right of the band's stretch is confirmed, and counted from its first tile.
 -- Assumes nothing.
 use mathlib.Core.Path.{◌∙◌}
-use borrow.Author.Rules.{rules}
 use Rattle.letters.proofs.Stretches.{column_guess, in_tiles}
 use Rattle.columns.specs.inner.Stretches.{column_stretch}
-use Rattle.columns.proofs.Guesses.{column_table, columns_are, in_table}
+use Rattle.columns.proofs.Guesses.{column_table, columns_are}
 use Rattle.columns.proofs.ups_tile.Goals as goal
-
-pub slice_bounds-tile_of-count : goal.slice_bounds-tile_of-count
-slice_bounds-tile_of-count c = rw c.ups_columns-s.ensures (columns_are c.args.band).low
-
-pub slice_bounds-tile_of-start : goal.slice_bounds-tile_of-start
-slice_bounds-tile_of-start c = let h = in_table c.args.band _ c.ups_columns-s.ensures in search rules
-
-pub slice_bounds-tile_of-end : goal.slice_bounds-tile_of-end
-slice_bounds-tile_of-end c = let h = in_table c.args.band _ c.ups_columns-s.ensures in search rules
 
 pub returns : goal.returns
 returns c =

@@ -7,6 +7,3 @@ send_all-requires g c = waits (stepped_reached _ _ _ _ _ _ c.requires c.step.ens
 
 pub returns-then-run-clause-reached : goal.returns-then-run-clause-reached
 returns-then-run-clause-reached g c = sent_reached _ _ _ _ (stepped_reached _ _ _ _ _ _ c.requires c.step.ensures) c.send_all.ensures.sent
-
-pub returns-clause-reached : goal.returns-clause-reached
-returns-clause-reached g c = stepped_reached _ _ _ _ _ _ c.requires c.step.ensures

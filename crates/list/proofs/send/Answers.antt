@@ -1,10 +1,7 @@
 -- `list::send` meets its contract: what waits stands in the output, and `written` is told how much of it the write took.
 -- Assumes nothing.
-use Rattle.courses.proofs.Programs.{written_sent, written_waits}
+use Rattle.courses.proofs.Programs.{written_waits}
 use Rattle.list.proofs.send.Goals as goal
-
-pub returns-clause-sent : goal.returns-clause-sent
-returns-clause-sent g c = written_sent _ _ _ c.written.ensures
 
 pub returns-clause-waits : goal.returns-clause-waits
 returns-clause-waits g c = written_waits _ _ _ _ c.requires c.written.ensures

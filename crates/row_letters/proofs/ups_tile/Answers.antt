@@ -1,20 +1,10 @@
 -- `row_letters::ups_tile` meets its contract: a guess that is right of the hemisphere's stretch is confirmed, and counted from its first tile.
 -- Assumes nothing.
 use mathlib.Core.Path.{◌∙◌}
-use borrow.Author.Rules.{rules}
 use Rattle.letters.proofs.Stretches.{guess, in_tiles}
 use Rattle.row_letters.specs.inner.Halves.{row_stretch}
-use Rattle.row_letters.proofs.Guesses.{row_table, rows_are, in_table}
+use Rattle.row_letters.proofs.Guesses.{row_table, rows_are}
 use Rattle.row_letters.proofs.ups_tile.Goals as goal
-
-pub slice_bounds-tile_of-count : goal.slice_bounds-tile_of-count
-slice_bounds-tile_of-count c = rw c.ups_rows-s.ensures (rows_are c.args.north).low
-
-pub slice_bounds-tile_of-start : goal.slice_bounds-tile_of-start
-slice_bounds-tile_of-start c = let h = in_table c.args.north _ c.ups_rows-s.ensures in search rules
-
-pub slice_bounds-tile_of-end : goal.slice_bounds-tile_of-end
-slice_bounds-tile_of-end c = let h = in_table c.args.north _ c.ups_rows-s.ensures in search rules
 
 pub returns : goal.returns
 returns c =

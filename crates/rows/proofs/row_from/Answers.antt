@@ -13,7 +13,7 @@ use Rattle.rows.specs.Limits.{limits_of}
 use Rattle.rows.specs.Allowed.{allowed}
 use Rattle.rows.specs.Resolve.{resolve}
 use Rattle.rows.proofs.Direct.{lowest, candidate}
-use Rattle.rows.proofs.Back.{low_back, near}
+use Rattle.rows.proofs.Back.{low_back}
 use Rattle.rows.proofs.Theorems.{taken, not_taken}
 use Rattle.rows.proofs.row_from.Goals as goal
 use Rattle.rows.proofs.row_from.Goals.{After-candidate_of-row, After-is_allowed_by, After-limits_of-l}
@@ -23,11 +23,6 @@ limits c = rw (to_z-of_z c.ranges.band) at c.limits_of-l.ensures
 
 low : (c : After-limits_of-l) → to_z w64 (of_z w64 c.limits_of-l.result.low) ≡ lowest c.args.band
 low c = low_back c.args.band c.limits_of-l.result (limits c)
-
-pub candidate_of-row-requires : goal.candidate_of-row-requires
-candidate_of-row-requires c =
-    let s = near c.args.band in
-    rw (low (goal.at.candidate_of-row-requires c).After-limits_of-l) (s.0, s.1, c.requires)
 
 row : (c : After-candidate_of-row) → to_z w64 (of_z w64 c.candidate_of-row.result) ≡ candidate c.args.band (c.args.place % 20)
 unfolding candidate

@@ -14,9 +14,6 @@ use Rattle.trip.proofs.read_back.Goals.{In_ok-n}
 few : (c : In_ok-n) → c.in_ok-n.n ≤ 27
 few c = (length_rule _ _ _ _ _ _ 27 _ (sym c.write.ensures.0 ∙ c.in_ok-n.was)).1
 
-pub slice_bounds-out-end : goal.slice_bounds-out-end
-slice_bounds-out-end c = rw c.write.auto.out (few c)
-
 pub slice_bounds-read-end : goal.slice_bounds-read-end
 slice_bounds-read-end c =
     let k = few (goal.at.slice_bounds-read-end c).In_ok-n in

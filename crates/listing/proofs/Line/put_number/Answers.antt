@@ -1,9 +1,8 @@
 -- `listing::Line::put_number` meets its contract: eight digits of what is left go over to what stands already.
 -- Assumes nothing.
-use Rattle.std.proofs.Common.{◌≡◌, ◌≤◌, ◌∙◌, ◌++◌, List, ℕ, length, ap, arith, length-append}
+use Rattle.std.proofs.Common.{◌≡◌, ◌≤◌, ◌++◌, List, ℕ, length, ap, arith, length-append}
 use Rattle.listing.specs.Numerals.{decimal}
 use Rattle.listing.proofs.Fit.{numeral_le}
-use Rattle.listing.proofs.Numerals.{eight_more}
 use Rattle.listing.proofs.Line.put_number.Goals as goal
 
 -- what stands already is no longer than the whole
@@ -15,7 +14,3 @@ put_eight-requires c = room _ _ _ _ c.loop-rest.invariant c.requires
 
 pub put_short-requires : goal.put_short-requires
 put_short-requires c = (c.loop-rest-test.false, room _ _ _ _ c.loop-rest.invariant c.requires)
-
-pub loop-rest-preserved : goal.loop-rest-preserved
-loop-rest-preserved c =
-    rw c.put_eight.ensures (eight_more c.loop-rest.rest c.loop-rest.self c.loop-rest-test.true c.loop-rest.auto.rest-fits.fits ∙ c.loop-rest.invariant)

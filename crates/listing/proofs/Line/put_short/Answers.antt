@@ -4,14 +4,8 @@ use Rattle.std.proofs.Common.{◌-◌, length, drop, ap, ◌∙◌, sym, arith, 
 use lib.Seq.{drop-drop}
 use Rattle.runs.specs.Runs.{last_digits}
 use Rattle.runs.proofs.Decimals.{digits_length}
-use Rattle.listing.proofs.Numerals.{one_is, two_is, few, short_is}
+use Rattle.listing.proofs.Numerals.{few, short_is}
 use Rattle.listing.proofs.Line.put_short.Goals as goal
-
-pub returns-then-n-lt10 : goal.returns-then-n-lt10
-returns-then-n-lt10 c = let e = one_is c.args.n c.args.self.now c.if-n-lt10.true in cc
-
-pub returns-then-n-lt100 : goal.returns-then-n-lt100
-returns-then-n-lt100 c = let e = two_is c.args.n c.args.self.now c.if-n-lt10.false c.if-n-lt100.true in cc
 
 pub overflow_sub-self : goal.overflow_sub-self
 overflow_sub-self c = few c.args.n c.ilog10.result c.requires.0 c.ilog10.ensures.power_le
