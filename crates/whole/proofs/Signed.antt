@@ -1,4 +1,4 @@
--- A signed 64-bit number, read back from its bits and cast to an unsigned one. Assumes nothing.
+-- A signed 64-bit number: read back from its bits, compared, and taken as a count. Assumes nothing.
 use mathlib.Core.Path.{◌≡◌, refl, sym, ap, subst, ◌∙◌}
 use Prim.Native.Nat.{ℕ, ◌^◌, ◌≤◌, ◌<◌}
 use native.Mathlib.Omega.{arith}
