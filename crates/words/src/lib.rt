@@ -78,7 +78,7 @@ impl Kind for NoDigit {
     ghost told = { no_digit_told };
 
     fn flag(b: u8) -> u8 {
-        if is_digit(b) { 0 } else { 128 }
+        if is_digit(b) { 0 } else { 255 }
     }
 
     // Where bytes differ from 48, bit by bit, digits are 0 to 9, so 118 more is below 128; the bit of 128 is left out of that sum, so

@@ -95,11 +95,13 @@ fn zone_at(band: i64, m: Meridian) -> i64
 pub fn standard_zone(latitude: i64, longitude: i64) -> Result<i64, Refusal>
     ensures { result ≡ zone_of latitude longitude }
 {
+    if latitude < -90_000_000_000 || 90_000_000_000 < latitude {
+        return Err(Refusal::LatitudeOut);
+    }
     match latitude {
         -80_000_000_000..84_000_000_000 => {
             Ok(zone_at(to_latitude_band(latitude), meridian_of(longitude)))
         }
-        -90_000_000_000..=90_000_000_000 => Ok(0),
-        _ => Err(Refusal::LatitudeOut),
+        _ => Ok(0),
     }
 }
