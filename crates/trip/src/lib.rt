@@ -15,6 +15,7 @@ pub fn read_back(q: Position) -> Result<Reading<Position>, Refusal>
     ensures { result ≡ back_of q.zone q.north q.band q.p q.easting q.northing }
 {
     let mut out = [0u8; 27];
+    // Kept: no `?`, so that an edit can change what a refusal gives, and nothing else.
     match writer::write(q, &mut out) {
         Ok(n) => reader::read(&out[..n]),
         Err(refusal) => Err(refusal),

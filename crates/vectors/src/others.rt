@@ -1,5 +1,5 @@
 // The questions of which no answer is recorded. Each is told with a space in front, whatever its fields are: one that is missing or
-// spells no number counts as 0, or as the largest number where a room or a divisor is asked.
+// spells no number counts as 0, or as the largest number where it can have no sign.
 use crate::fields::{byte_of, is_north, numbers};
 use crate::letter_sets::Set;
 use crate::{calls, ground};
